@@ -1,0 +1,116 @@
+-- Laws of the first fault: a list judged in two parts, what is known where none holds, and what a refusal leaves.
+-- Assumes nothing.
+use Prim.Native.Nat.{ℕ, zero, suc, _≤_, _<_}
+use native.Mathlib.Omega.{arith}
+use mathlib.Core.Bool.{Bool, true, false, cond, _||_}
+use mathlib.Core.List.{List, [], _∷_, _++_}
+use mathlib.Core.Path.{_≡_, refl, sym, ap, _∙_}
+use borrow.Author.Tests.{le-ltb, ltb-false}
+use lib.Dec.{ltb}
+use Rattle.refusals.specs.Settled.{Settles}
+use Rattle.refusals.specs.First.{Fault, _gives_, orElse, firstOf, unlessRefused, outside}
+
+orElse-assoc : (a b c : ℕ) → orElse (orElse a b) c ≡ orElse a (orElse b c)
+orElse-assoc zero b c = refl
+orElse-assoc (suc a) b c = refl
+
+-- a list may be judged in two parts, the earlier part first
+pub first-append : (earlier later : List Fault) → firstOf (earlier ++ later) ≡ orElse (firstOf earlier) (firstOf later)
+first-append [] later = refl
+first-append ((holds gives number) ∷ earlier) later =
+    rw (first-append earlier later, orElse-assoc (cond holds number 0) (firstOf earlier) (firstOf later))
+
+orElse-stops : (n m : ℕ) → (n ≡ 0 → ⊥) → n ≡ orElse n m
+orElse-stops zero m ne = absurd (ne refl)
+orElse-stops (suc n) m ne = refl
+
+-- where the earlier part gives a number, that is the number
+pub first-stops : (earlier later : List Fault) (n : ℕ) → n ≡ firstOf earlier → (n ≡ 0 → ⊥) → n ≡ firstOf (earlier ++ later)
+first-stops earlier later n e ne =
+    orElse-stops n (firstOf later) ne ∙ ap (λ (k : ℕ). orElse k (firstOf later)) e ∙ sym (first-append earlier later)
+
+-- where it gives none, the later part decides
+pub first-goes-on : (earlier later : List Fault) → firstOf earlier ≡ 0 → firstOf (earlier ++ later) ≡ firstOf later
+first-goes-on earlier later e = first-append earlier later ∙ ap (λ (k : ℕ). orElse k (firstOf later)) e
+
+-- where a list gives no number, its first fault does not hold and the rest gives none
+pub first-passed : (holds : Bool) (number : ℕ) (later : List Fault)
+    → firstOf ((holds gives suc number) ∷ later) ≡ 0 → (holds ≡ false) × (firstOf later ≡ 0)
+first-passed true number later e = absurd (omega arith)
+first-passed false number later e = (refl, e)
+
+pub first-both : (earlier later : List Fault) → firstOf (earlier ++ later) ≡ 0 → (firstOf earlier ≡ 0) × (firstOf later ≡ 0)
+first-both earlier later e = by (firstOf earlier) refl (sym (first-append earlier later) ∙ e)
+  where
+    by : (n : ℕ) → firstOf earlier ≡ n → orElse (firstOf earlier) (firstOf later) ≡ 0 → (firstOf earlier ≡ 0) × (firstOf later ≡ 0)
+    by zero en eo = (en, sym (ap (λ (k : ℕ). orElse k (firstOf later)) en) ∙ eo)
+    by (suc n) en eo = absurd (let z : suc n ≡ 0 = sym (ap (λ (k : ℕ). orElse k (firstOf later)) en) ∙ eo in omega arith)
+
+-- a number that is not outside a range lies in it
+pub in-range : (low high x : ℕ) → outside low high x ≡ false → (low ≤ x) × (x ≤ high)
+in-range low high x = by (ltb x low) (ltb high x) refl refl
+  where
+    by : (under over : Bool) → ltb x low ≡ under → ltb high x ≡ over → (under || over) ≡ false → (low ≤ x) × (x ≤ high)
+    by true over eu eo e = absurd (let z : _≡_ {A = ℕ} 0 1 = cc in omega arith)
+    by false true eu eo e = absurd (let z : _≡_ {A = ℕ} 0 1 = cc in omega arith)
+    by false false eu eo e = (ltb-false x low eu, ltb-false high x eo)
+
+pub not-outside : (low high x : ℕ) → low ≤ x → x ≤ high → outside low high x ≡ false
+not-outside low high x l h = rw (le-ltb x low l, le-ltb high x h)
+
+-- a refusal n, which is the number m of the definition, leaves what was there
+pub refused-keeps : {A : Type 0} {n : ℕ} (m : ℕ) (new old : A) → n ≡ m → (n ≡ 0 → ⊥) → unlessRefused m new old ≡ old
+refused-keeps zero new old e ne = absurd (ne e)
+refused-keeps (suc m) new old e ne = refl
+
+-- and without one the new thing is there
+pub taken-gives : {A : Type 0} {n : ℕ} (m : ℕ) (new old : A) → n ≡ m → n ≡ 0 → unlessRefused m new old ≡ new
+taken-gives {A} {n} m new old e e0 = rw (sym e ∙ e0)
+
+-- a statement that gives what is seen as a function of the arguments settles it
+pub settled : {Args Result Exit Seen : Type 0} (Post : Args → Result → Exit → Type 0) (seen : Result → Exit → Seen) (f : Args → Seen)
+    → ((a : Args) (r : Result) (e : Exit) → Post a r e → seen r e ≡ f a) → Settles Post seen
+unfolding Settles
+settled Post seen f told a r r′ e e′ p p′ = told a r e p ∙ sym (told a r′ e′ p′)
+
+-- no fault of the list holds
+abbrev pub NoneHolds : List Fault → Type 0
+NoneHolds [] = Unit {0}
+NoneHolds ((holds gives number) ∷ later) = (holds ≡ false) × NoneHolds later
+
+-- no fault of the list has the number 0, which means that nothing is refused
+abbrev pub Numbered : List Fault → Type 0
+Numbered [] = Unit {0}
+Numbered ((holds gives number) ∷ later) = (0 < number) × Numbered later
+
+-- the refusal is 0 exactly when no fault holds
+pub none-refuses : (faults : List Fault) → NoneHolds faults → firstOf faults ≡ 0
+none-refuses [] h = refl
+none-refuses ((holds gives number) ∷ later) h = rw (h .0) (none-refuses later (h .1))
+
+pub nothing-holds : (faults : List Fault) → Numbered faults → firstOf faults ≡ 0 → NoneHolds faults
+nothing-holds [] n e = tt
+nothing-holds ((true gives zero) ∷ later) n e = absurd (omega arith)
+nothing-holds ((true gives suc number) ∷ later) n e = absurd (omega arith)
+nothing-holds ((false gives number) ∷ later) n e = (refl, nothing-holds later (n .1) e)
+
+-- and any other refusal is the number of a fault that holds, while none before it does
+pub record FirstThatHolds (faults : List Fault) (refusal : ℕ) : Type 0 where
+  pub earlier : List Fault
+  pub later : List Fault
+  pub split : faults ≡ earlier ++ (true gives refusal) ∷ later
+  pub none-earlier : NoneHolds earlier
+
+pub first-holds : (faults : List Fault) (refusal : ℕ) → Numbered faults → firstOf faults ≡ suc refusal → FirstThatHolds faults (suc refusal)
+first-holds [] refusal n e = absurd (omega arith)
+first-holds ((true gives zero) ∷ later) refusal n e = absurd (omega arith)
+first-holds ((true gives suc number) ∷ later) refusal n e =
+    record { earlier = []; later = later; split = ap (λ (k : ℕ). (true gives k) ∷ later) e; none-earlier = tt }
+first-holds ((false gives number) ∷ later) refusal n e =
+    let r = first-holds later refusal (n .1) e in
+    record {
+      earlier = (false gives number) ∷ r .earlier;
+      later = r .later;
+      split = ap (λ (l : List Fault). (false gives number) ∷ l) (r .split);
+      none-earlier = (refl, r .none-earlier);
+    }

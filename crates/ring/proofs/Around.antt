@@ -1,0 +1,65 @@
+-- The way back through the slots: the slot before 0 is the last one, and sums of the newest slots grow by one slot at a time.
+-- Assumes nothing.
+use Prim.Native.Nat.{ℕ, zero, suc, _+_, _-_, _*_, _<_, _≤_}
+use native.Mathlib.Nat.{suc-mul}
+use native.Mathlib.Omega.{arith}
+use mathlib.Core.Path.{_≡_, refl, sym, ap, ap₂, _∙_}
+use Rattle.ring.specs.Newest.{slotBefore, newest, sumNewest}
+
+-- the slot before 0 is the last one
+pub before-first : (slots : ℕ) → slotBefore slots 0 ≡ slots - 1
+unfolding slotBefore
+before-first slots = refl
+
+pub before-next : (slots slot : ℕ) → slotBefore slots (suc slot) ≡ slot
+unfolding slotBefore
+before-next slots slot = refl
+
+pub before-less : (slots slot : ℕ) → (slot ≡ 0 → ⊥) → slotBefore slots slot ≡ slot - 1
+unfolding slotBefore
+before-less slots zero ne = absurd (ne refl)
+before-less slots (suc slot) ne = omega arith
+
+pub before-lt : (slots slot : ℕ) → slot < slots → slotBefore slots slot < slots
+unfolding slotBefore
+before-lt slots zero h = omega arith
+before-lt slots (suc slot) h = omega arith
+
+pub newest-none : (slots next : ℕ) → newest slots next 0 ≡ next
+unfolding newest
+newest-none slots next = refl
+
+pub newest-more : (slots next j : ℕ) → newest slots next (suc j) ≡ slotBefore slots (newest slots next j)
+unfolding newest
+newest-more slots next j = refl
+
+pub newest-lt : (slots next j : ℕ) → next < slots → newest slots next j < slots
+unfolding newest
+newest-lt slots next zero h = h
+newest-lt slots next (suc j) h = before-lt slots (newest slots next j) (newest-lt slots next j h)
+
+-- the sum of 0 is 0
+pub sum-none : (held : ℕ → ℕ) (slots next : ℕ) → sumNewest held slots next 0 ≡ 0
+unfolding sumNewest
+sum-none held slots next = refl
+
+-- the sum of j + 1 is the sum of j plus the next older slot
+pub sum-more : (held : ℕ → ℕ) (slots next j : ℕ)
+    → sumNewest held slots next (suc j) ≡ sumNewest held slots next j + held (newest slots next (suc j))
+unfolding sumNewest
+sum-more held slots next j = refl
+
+-- sums see only what the slots hold
+pub sum-same : (held held′ : ℕ → ℕ) (slots next j : ℕ) → next < slots → ((slot : ℕ) → slot < slots → held slot ≡ held′ slot)
+    → sumNewest held slots next j ≡ sumNewest held′ slots next j
+unfolding sumNewest
+sum-same held held′ slots next zero h same = refl
+sum-same held held′ slots next (suc j) h same =
+    ap₂ _+_ (sum-same held held′ slots next j h same) (same (newest slots next (suc j)) (newest-lt slots next (suc j) h))
+
+-- a sum of j slots that each hold at most `most`
+pub sum-le : (held : ℕ → ℕ) (most : ℕ) → ((slot : ℕ) → held slot ≤ most) → (slots next j : ℕ) → sumNewest held slots next j ≤ j * most
+unfolding sumNewest
+sum-le held most bound slots next zero = omega arith
+sum-le held most bound slots next (suc j) =
+    omega (arith, sum-le held most bound slots next j, bound (newest slots next (suc j)), suc-mul j most)

@@ -1,0 +1,37 @@
+-- `ring::judge::read` meets its contract: the shape is judged first, then the slot, then the room.
+-- Assumes nothing.
+use borrow.Author.Needs.{needs}
+use mathlib.Core.Path.{_≡_, refl, sym, ap, _∙_}
+use mathlib.Core.List.{[], _∷_}
+use borrow.Author.Tests.{le-leb, lt-leb}
+use Rattle.refusals.proofs.Laws.{first-stops}
+use Rattle.ring.specs.Calls.{shapeFaults, roomFaults, slotFault, readRefusal}
+use Rattle.ring.proofs.Refused.{shape-known, after-shape}
+use Rattle.ring.proofs.judge.read.Statement.{statement}
+use Rattle.ring.proofs.judge.read.Tie as tie
+
+shape-requires : tie.Need-shape-requires
+shape-requires c κs = search needs
+
+returns : tie.Need-returns
+unfolding readRefusal
+returns c = let a = c .before .before .args in
+    first-stops (shapeFaults (a .width) (a .slots)) (slotFault (a .slots) (a .slot) ∷ roomFaults (a .width) (a .slots) (a .lent)) (c .before .shape .result) (c .before .shape .ensures) (c .if1 .taken)
+
+returns-2 : tie.Need-returns-2
+unfolding readRefusal
+returns-2 c = let a = c .before .before .before .args in
+    rw (sym (after-shape (a .width) (a .slots) (slotFault (a .slots) (a .slot) ∷ roomFaults (a .width) (a .slots) (a .lent)) (c .before .before .shape .ensures) (c .before .if1 .left)), le-leb (a .slots) (a .slot) (c .if2 .taken))
+
+room-requires : tie.Need-room-requires
+room-requires c κs = let a = c .before .before .before .args in
+    let s = shape-known (a .width) (a .slots) (c .before .before .shape .ensures) (c .before .if1 .left) in
+    (s .width-high, s .slots-high)
+
+returns-3 : tie.Need-returns-3
+unfolding readRefusal
+returns-3 c = let a = c .before .before .before .before .args in
+    rw (sym (after-shape (a .width) (a .slots) (slotFault (a .slots) (a .slot) ∷ roomFaults (a .width) (a .slots) (a .lent)) (c .before .before .before .shape .ensures) (c .before .before .if1 .left)), lt-leb (a .slots) (a .slot) (c .before .if2 .left)) (c .room .ensures)
+
+pub read-spec : {M : Type 1} → statement M
+read-spec = tie.close (tie.spec shape-requires returns returns-2 room-requires returns-3)

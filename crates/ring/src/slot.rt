@@ -1,0 +1,91 @@
+// The slots of a ring: where one lies, getting and putting its number, and the way back from one to the one before it.
+ghost use mathlib.Core.Path.{_≡_};
+ghost use mathlib.Core.List.{_++_};
+ghost use Prim.Native.Nat.{_+_, _≤_, _<_, _*_, _/_, _%_, _^_};
+ghost use lib.ListN.{length, drop, replicate};
+ghost use Rattle.ring.specs.Slot.{field, written};
+ghost use Rattle.ring.specs.Newest.{slotBefore, sumNewest};
+use crate::word;
+
+// The bytes in which a slot lies: `count` of them from `first` on, and `after` bits behind the slot in the last one.
+struct Place {
+    first: usize,
+    count: usize,
+    after: usize,
+}
+
+fn locate(width: usize, slot: usize) -> Place
+    requires { ⌜ (1 ≤ width) × (width ≤ 16) × (slot < 4096) ⌝ }
+    ensures lies { λ r. ⌜ ((r .first + r .count) * 8 ≡ slot * width + width + r .after) × (r .first * 8 ≤ slot * width) ⌝ }
+    ensures short { λ r. ⌜ (1 ≤ r .count) × (r .count ≤ 3) × (r .after < 8) ⌝ }
+{
+    let from = slot * width;
+    let first = from / 8;
+    let end = from + width;
+    let count = (end + 7) / 8 - first;
+    Place {
+        first,
+        count,
+        after: (first + count) * 8 - end,
+    }
+}
+
+// The number in a slot.
+pub(crate) fn get(width: usize, ring: &[u8], slot: usize) -> u64
+    requires { ⌜ (1 ≤ width) × (width ≤ 16) × (slot < 4096) × (slot * width + width ≤ length (now ring) * 8) ⌝ }
+    ensures { λ r. ⌜ r ≡ field width (now (ring .entry)) slot ⌝ }
+{
+    let at = locate(width, slot);
+    let first = at.first;
+    let count = at.count;
+    (word::load(ring, first, count) >> at.after) % word::power(width)
+}
+
+// Puts a value into a slot.
+pub(crate) fn put(width: usize, ring: &mut [u8], slot: usize, value: u64)
+    requires { ⌜ (1 ≤ width) × (width ≤ 16) × (slot < 4096) × (slot * width + width ≤ length (now ring) * 8) × (value < 2 ^ width) ⌝ }
+    ensures { λ r. ⌜ now (ring .exit) ≡ written width (now (ring .entry)) slot value ⌝ }
+{
+    let at = locate(width, slot);
+    let first = at.first;
+    let count = at.count;
+    let old = word::load(ring, first, count);
+    let new = word::patch(old, width, at.after, value);
+    word::store(ring, first, count, new);
+}
+
+// The slot before a slot; before 0 stands the last one.
+fn before(slots: usize, slot: usize) -> usize
+    requires { ⌜ slot < slots ⌝ }
+    ensures { λ r. ⌜ r ≡ slotBefore slots slot ⌝ }
+{
+    if slot == 0 { slots - 1 } else { slot - 1 }
+}
+
+// The sum of the j newest slots before the slot `next`.
+pub(crate) fn sum_newest(width: usize, slots: usize, ring: &[u8], next: usize, j: usize) -> u64
+    requires { ⌜ (1 ≤ width) × (width ≤ 16) × (slots ≤ 4096) × (slots * width ≤ length (now ring) * 8) × (next < slots) × (j ≤ slots) ⌝ }
+    ensures { λ r. ⌜ r ≡ sumNewest (field width (now (ring .entry))) slots next j ⌝ }
+{
+    let mut sum: u64 = 0;
+    let mut slot = next;
+    let mut i = 0;
+    while i < j {
+        slot = before(slots, slot);
+        sum += get(width, ring, slot);
+        i += 1;
+    }
+    sum
+}
+
+// Sets the first n bytes to 0.
+pub(crate) fn wipe(ring: &mut [u8], n: usize)
+    requires { ⌜ n ≤ length (now ring) ⌝ }
+    ensures { λ r. ⌜ now (ring .exit) ≡ replicate n 0 ++ drop n (now (ring .entry)) ⌝ }
+{
+    let mut i = 0;
+    while i < n {
+        ring[i] = 0;
+        i += 1;
+    }
+}
