@@ -1,10 +1,66 @@
 -- The refusal numbers of paper 01, section "Refusal numbers", each with a name. 0 means that nothing was refused.
 use Prim.Native.Nat.{ℕ}
 
--- 4: the ring slice has fewer bytes than the ring needs
+-- 1: L is not 1 to 65,535
+abbrev pub badBound : ℕ
+badBound = 1
+
+-- 2: n is not 1 to 4,096
+abbrev pub badLength : ℕ
+badLength = 2
+
+-- 3: D is 0 or above n·L
+abbrev pub badTolerance : ℕ
+badTolerance = 3
+
+-- 4: the ring slice has fewer bytes than the ring takes
 abbrev pub ringTooShort : ℕ
 ringTooShort = 4
+
+-- 5: the window is longer than kept
+abbrev pub windowTooLong : ℕ
+windowTooLong = 5
+
+-- 6: an amount of 0, or a verdict's window of 0
+abbrev pub zeroAsked : ℕ
+zeroAsked = 6
+
+-- 7: the item is above L
+abbrev pub itemTooLarge : ℕ
+itemTooLarge = 7
+
+-- 8: the record is no book
+abbrev pub noBook : ℕ
+noBook = 8
+
+-- 9: no window reaches the amount
+abbrev pub notReached : ℕ
+notReached = 9
 
 -- 10: a call of the ring itself with a number out of its range
 abbrev pub badRingCall : ℕ
 badRingCall = 10
+
+-- 11: a wrong byte in a header, or a number without digits
+abbrev pub wrongByte : ℕ
+wrongByte = 11
+
+-- 12: width, height or maxval out of range
+abbrev pub numberOutOfRange : ℕ
+numberOutOfRange = 12
+
+-- 13: an image of more than 24,576 bytes
+abbrev pub imageTooLarge : ℕ
+imageTooLarge = 13
+
+-- 14: the slice ends too early
+abbrev pub endsTooEarly : ℕ
+endsTooEarly = 14
+
+-- 15: a pixel above maxval
+abbrev pub pixelTooLarge : ℕ
+pixelTooLarge = 15
+
+-- 16: two images that differ in width, height or maxval
+abbrev pub imagesDiffer : ℕ
+imagesDiffer = 16

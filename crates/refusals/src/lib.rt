@@ -1,2 +1,33 @@
-// What all calls share: the refusal numbers, how the first one that applies is found, and what a refusal leaves as it was.
-// There is no code here; see specs/ for the definitions and proofs/ for the laws about them.
+// What all calls share: the refusal numbers of paper 01, how the first one that applies is found, and what a refusal leaves as it was.
+// The numbers stand here for the code and in specs/Numbers.antt for the statements; no call is made here.
+pub const BAD_BOUND: u8 = 1;
+
+pub const BAD_LENGTH: u8 = 2;
+
+pub const BAD_TOLERANCE: u8 = 3;
+
+pub const RING_TOO_SHORT: u8 = 4;
+
+pub const WINDOW_TOO_LONG: u8 = 5;
+
+pub const ZERO_ASKED: u8 = 6;
+
+pub const ITEM_TOO_LARGE: u8 = 7;
+
+pub const NO_BOOK: u8 = 8;
+
+pub const NOT_REACHED: u8 = 9;
+
+pub const BAD_RING_CALL: u8 = 10;
+
+pub const WRONG_BYTE: u8 = 11;
+
+pub const NUMBER_OUT_OF_RANGE: u8 = 12;
+
+pub const IMAGE_TOO_LARGE: u8 = 13;
+
+pub const ENDS_TOO_EARLY: u8 = 14;
+
+pub const PIXEL_TOO_LARGE: u8 = 15;
+
+pub const IMAGES_DIFFER: u8 = 16;

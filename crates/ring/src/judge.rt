@@ -5,10 +5,8 @@ ghost use Rattle.refusals.specs.First.{firstOf};
 ghost use Rattle.ring.specs.Slot.{ringBytes};
 ghost use Rattle.ring.specs.Calls.{shapeFaults, roomFaults, clearRefusal, readRefusal, writeRefusal, sumRefusal};
 use crate::word;
-
-const BAD_RING_CALL: u8 = 10;
-
-const RING_TOO_SHORT: u8 = 4;
+use refusals::BAD_RING_CALL;
+use refusals::RING_TOO_SHORT;
 
 fn shape(width: usize, slots: usize) -> u8
     ensures { λ r. ⌜ r ≡ firstOf (shapeFaults width slots) ⌝ }
