@@ -3,7 +3,9 @@
 use Prim.Native.Nat.{ℕ, zero, suc, _+_, _-_, _*_, _<_, _≤_}
 use native.Mathlib.Nat.{suc-mul}
 use native.Mathlib.Omega.{arith}
+use mathlib.Core.Logic.{_⊎_, inl, inr}
 use mathlib.Core.Path.{_≡_, refl, sym, ap, ap₂, _∙_}
+use Rattle.ring.proofs.Parts.{le-or-lt}
 use Rattle.ring.specs.Newest.{slotBefore, newest, sumNewest}
 
 -- the slot before 0 is the last one
@@ -37,6 +39,32 @@ pub newest-lt : (slots next j : ℕ) → next < slots → newest slots next j < 
 unfolding newest
 newest-lt slots next zero h = h
 newest-lt slots next (suc j) h = before-lt slots (newest slots next j) (newest-lt slots next j h)
+
+-- the j-th newest slot, in one step: j back from `next`, or from the end of the ring
+pub newest-near : (slots next j : ℕ) → j ≤ next → newest slots next j ≡ next - j
+unfolding newest
+newest-near slots next zero h = omega arith
+newest-near slots next (suc j) h =
+    ap (slotBefore slots) (newest-near slots next j (omega arith))
+    ∙ before-less slots (next - j) (λ e. omega arith)
+    ∙ omega arith
+
+pub newest-far : (slots next j : ℕ) → next < j → j ≤ slots → newest slots next j ≡ next + slots - j
+unfolding newest
+newest-far slots next zero h most = absurd (omega arith)
+newest-far slots next (suc j) h most = by (le-or-lt j next) (λ far. newest-far slots next j far (omega arith))
+  where
+    by : (j ≤ next) ⊎ (next < j) → (next < j → newest slots next j ≡ next + slots - j)
+        → slotBefore slots (newest slots next j) ≡ next + slots - suc j
+    by (inl near) back =
+        let same : next ≡ j = omega arith in
+        ap (slotBefore slots) (newest-near slots next j near ∙ (let e : next - j ≡ 0 = omega arith in e))
+        ∙ before-first slots
+        ∙ omega arith
+    by (inr far) back =
+        ap (slotBefore slots) (back far)
+        ∙ before-less slots (next + slots - j) (λ e. omega arith)
+        ∙ omega arith
 
 -- the sum of 0 is 0
 pub sum-none : (held : ℕ → ℕ) (slots next : ℕ) → sumNewest held slots next 0 ≡ 0

@@ -1,7 +1,7 @@
 -- THE RING'S PROMISES. These are final: the book, and every crate above the ring, cites this file and the names of specs/, and looks
 -- into no definition. First what the calls answer, then ledger R.3: what the slots hold after a clear and a write, and the sums.
 -- Assumes nothing.
-use Prim.Native.Nat.{ℕ, zero, suc, _+_, _-_, _*_, _^_, _≤_, _<_}
+use Prim.Native.Nat.{ℕ, zero, suc, _+_, _-_, _*_, _/_, _^_, _≤_, _<_}
 use native.Mathlib.Omega.{arith}
 use mathlib.Core.List.{List}
 use mathlib.Core.Logic.{inr, _≢_}
@@ -13,9 +13,10 @@ use Rattle.ring.specs.Row.{bits}
 use Rattle.ring.specs.Slot.{ringBytes, field, written, cleared}
 use Rattle.ring.specs.Newest.{slotBefore, newest, sumNewest}
 use Rattle.ring.specs.Calls.{clearRefusal, clearBytes, readRefusal, readAnswer, writeRefusal, writeBytes, sumRefusal, sumAnswer}
-use Rattle.ring.proofs.Rows.{Bytes}
+pub use Rattle.ring.proofs.Rows.{Bytes}
 use Rattle.ring.proofs.Refused as refused
-use Rattle.ring.proofs.Refused.{Shape, Lent, HasSlot}
+use Rattle.ring.proofs.Refused.{Shape, HasSlot}
+pub use Rattle.ring.proofs.Refused.{Lent}
 use Rattle.ring.proofs.Fields as fields
 use Rattle.ring.proofs.Around as around
 
@@ -101,6 +102,11 @@ module _ (width slots : ℕ) (ring : List ℕ) (whole : Lent width slots (length
   pub length-cleared : length (cleared width slots ring) ≡ length ring
   length-cleared = fields.length-cleared width slots ring (whole .room)
 
+-- B, the bytes that a ring takes, is slots·width / 8 rounded up
+pub bytes-are : (width slots : ℕ) → ringBytes width slots ≡ (slots * width + 7) / 8
+unfolding ringBytes
+bytes-are width slots = refl
+
 -- a field is below 2^b
 pub field-lt : (width : ℕ) (ring : List ℕ) (slot : ℕ) → field width ring slot < 2 ^ width
 field-lt = fields.field-lt
@@ -121,6 +127,13 @@ newest-more = around.newest-more
 
 pub newest-lt : (slots next j : ℕ) → next < slots → newest slots next j < slots
 newest-lt = around.newest-lt
+
+-- the j-th newest slot in one step: j back from `next`, or from the end of the ring
+pub newest-near : (slots next j : ℕ) → j ≤ next → newest slots next j ≡ next - j
+newest-near = around.newest-near
+
+pub newest-far : (slots next j : ℕ) → next < j → j ≤ slots → newest slots next j ≡ next + slots - j
+newest-far = around.newest-far
 
 -- the sum of 0 is 0
 pub sum-none : (held : ℕ → ℕ) (slots next : ℕ) → sumNewest held slots next 0 ≡ 0

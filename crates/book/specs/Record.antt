@@ -1,0 +1,45 @@
+-- The record of a book: L, n, D, the carry R, the phase p, kept and head. Its derived numbers, and how a changed record is made.
+use Prim.Native.Nat.{ℕ}
+use mathlib.Core.List.{List}
+use Rattle.ring.specs.Slot.{field}
+use Rattle.book.specs.declared.Book.{Book}
+use Rattle.book.specs.Derived.{blockLength, slotCount, fieldWidth, bytesNeeded}
+
+-- c, s, b and B of a record
+abbrev pub blockOf : Book → ℕ
+blockOf book = blockLength (book .bound) (book .tolerance)
+
+abbrev pub slotsOf : Book → ℕ
+slotsOf book = slotCount (book .bound) (book .length) (book .tolerance)
+
+abbrev pub widthOf : Book → ℕ
+widthOf book = fieldWidth (book .bound) (book .tolerance)
+
+abbrev pub bytesOf : Book → ℕ
+bytesOf book = bytesNeeded (book .bound) (book .length) (book .tolerance)
+
+-- what the slots of a book's ring hold
+abbrev pub heldIn : Book → List ℕ → ℕ → ℕ
+heldIn book ring = field (widthOf book) ring
+
+-- the record with another carry, phase, kept and head
+abbrev pub changed : Book → ℕ → ℕ → ℕ → ℕ → Book
+changed book carry phase kept head =
+    record {
+      bound = book .bound;
+      length = book .length;
+      tolerance = book .tolerance;
+      carry = carry;
+      phase = phase;
+      kept = kept;
+      head = head;
+    }
+
+-- the record that opening makes: R, p, kept and head are 0
+abbrev pub opened : ℕ → ℕ → ℕ → Book
+opened bound length tolerance =
+    record { bound = bound; length = length; tolerance = tolerance; carry = 0; phase = 0; kept = 0; head = 0 }
+
+-- the record of all zeros
+abbrev pub noBookAtAll : Book
+noBookAtAll = opened 0 0 0

@@ -1,0 +1,37 @@
+// The figure for the last i items of a book: specs/Figure.antt.
+ghost use mathlib.Core.Path.{_≡_};
+ghost use Prim.Native.Nat.{_*_, _≤_, _<_};
+ghost use lib.ListN.{length};
+ghost use Rattle.book.specs.Record.{bytesOf};
+ghost use Rattle.book.specs.Sound.{Sound};
+ghost use Rattle.book.specs.Figure.{reckoned, slotsFor, figure};
+use crate::Book;
+use crate::derived::block_length;
+use crate::derived::ceil_div;
+use crate::slots;
+
+// R + D·sum − (D − 1) − e·L·g, or 0 if that is negative.
+fn reckon(book: Book, sum: u64, e: u64, g: u64) -> u64
+    requires { ⌜ Sound book × (sum ≤ 536870912) × (e * book .bound ≤ 268435456) × (g ≤ 1073741824) ⌝ }
+    ensures { λ r. ⌜ r ≡ reckoned book sum e g ⌝ }
+{
+    let whole = book.carry + book.tolerance * sum;
+    let less = book.tolerance - 1 + e * book.bound * g;
+    if whole < less { 0 } else { whole - less }
+}
+
+// The figure. Each slot that the window needs is read once: all but the oldest by the ring's sum, the oldest by itself.
+pub(crate) fn figure_of(book: Book, ring: &[u8], window: u64) -> u64
+    requires { ⌜ Sound book × (window ≤ book .kept) × (bytesOf book ≤ length (now ring)) ⌝ }
+    ensures { λ r. ⌜ r ≡ figure book (now (ring .entry)) window ⌝ }
+{
+    if window <= book.phase {
+        return reckon(book, 0, book.phase - window, book.carry / book.tolerance);
+    }
+    let block = block_length(book.bound, book.tolerance);
+    let items = window - book.phase;
+    let j = ceil_div(items, block);
+    let newer = slots::sum_newest(book, ring, j - 1);
+    let last = slots::nth_newest(book, ring, j);
+    reckon(book, newer + last, j * block - items, last)
+}
