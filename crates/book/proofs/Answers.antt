@@ -5,14 +5,18 @@ use mathlib.Core.List.{List, [], _∷_, _++_}
 use mathlib.Core.Path.{_≡_, refl, sym, _∙_}
 use borrow.Author.Tests.{ltb-false, le-ltb}
 use lib.Dec.{ltb}
+use lib.ListN.{length}
 use Rattle.refusals.specs.First.{_gives_, firstOf, unlessRefused}
 use Rattle.refusals.proofs.Laws.{first-both, first-passed, first-goes-on, refused-keeps, taken-gives}
 use Rattle.book.specs.declared.Book.{Book}
 use Rattle.book.specs.declared.Updated.{Updated}
 use Rattle.book.specs.declared.Figure.{Figure}
-use Rattle.book.specs.Derived.{bytesNeeded}
+use Rattle.ring.specs.Slot.{cleared}
+use Rattle.book.specs.Derived.{slotCount, fieldWidth, bytesNeeded}
 use Rattle.book.specs.Sound.{Ranges}
-use Rattle.book.specs.Calls.{numberFaults, bookFaults, openRefusal, addRefusal, totalRefusal, updated}
+use Rattle.book.specs.Record.{opened}
+use Rattle.book.specs.Adding.{added, addedRing}
+use Rattle.book.specs.Calls.{numberFaults, bookFaults, openRefusal, openAnswer, openBytes, addRefusal, addAnswer, addBytes, totalRefusal, updated}
 use Rattle.book.proofs.Refused.{Usable, usable-known, usable-passes, ranges-known, ranges-pass}
 
 -- the refusal n is the number m of the definition: the old record comes back
@@ -81,3 +85,25 @@ total-known book lent window e = one-more-known book lent (book .kept) window 4 
 pub total-taken : (book : Book) (lent window : ℕ) → Usable book lent → window ≤ book .kept → totalRefusal book lent window ≡ 0
 unfolding totalRefusal
 total-taken book lent window u h = one-more-taken book lent (book .kept) window 5 u h
+
+-- an opening that is taken gives the fresh record and the cleared ring
+pub open-gives : (bound n tolerance : ℕ) (ring : List ℕ) → openRefusal bound n tolerance (length ring) ≡ 0
+    → (openAnswer bound n tolerance ring .book ≡ opened bound n tolerance)
+    × (openBytes bound n tolerance ring ≡ cleared (fieldWidth bound tolerance) (slotCount bound n tolerance) ring)
+unfolding openAnswer openBytes
+open-gives bound n tolerance ring e = (rw e, rw e)
+
+-- an item that is taken gives the record and the ring with it
+pub add-gives : (book : Book) (ring : List ℕ) (item : ℕ) → addRefusal book (length ring) item ≡ 0
+    → (addAnswer book ring item .book ≡ added book item) × (addBytes book ring item ≡ addedRing book ring item)
+unfolding addAnswer addBytes
+add-gives book ring item e = (rw e, rw e)
+
+-- and one that is refused gives them back as they came
+pub add-refuses : (book : Book) (ring : List ℕ) (item : ℕ) → (addRefusal book (length ring) item ≡ 0 → ⊥)
+    → (addAnswer book ring item .book ≡ book) × (addBytes book ring item ≡ ring)
+unfolding addAnswer addBytes
+add-refuses book ring item ne = (
+  refused-keeps (addRefusal book (length ring) item) (added book item) book refl ne,
+  refused-keeps (addRefusal book (length ring) item) (addedRing book ring item) ring refl ne,
+)

@@ -5,3 +5,4 @@ pub mod Refused
 pub mod Steps
 pub mod Figures
 pub mod Answers
+pub mod Keeps

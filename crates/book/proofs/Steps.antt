@@ -89,10 +89,9 @@ module _ (book : Book) (sound : Sound book) where
     unfolding slotsFor
     for-covers = ceil-covers (window - book .phase) (blockOf book) (block-low (book .bound) (book .tolerance))
 
-    pub for-tight : slotsFor book window * blockOf book - (window - book .phase) ≤ blockOf book
+    pub for-tight : slotsFor book window * blockOf book < window - book .phase + blockOf book
     unfolding slotsFor
-    for-tight =
-        omega (arith, ceil-tight (window - book .phase) (blockOf book) (block-low (book .bound) (book .tolerance)))
+    for-tight = ceil-tight (window - book .phase) (blockOf book) (block-low (book .bound) (book .tolerance))
 
 -- the sum of at most 4,096 slots is below 2^28
 pub sum-top : (book : Book) (ring : List ℕ) → Sound book → (j : ℕ) → j ≤ slotsOf book

@@ -117,7 +117,7 @@ reckon-requires-2 c κs = let b = c .before .before .before .before .before .bef
     let k = c .before .before .before .before .before .before .before .before .pre .1 in (
       s,
       omega (arith, parts-le c),
-      rw (slots-are (c .before .before), c .before .before .before .before .block-length .ensures) (omega (arith, span-top b s (slotsFor b w * blockOf b - (w - b .phase)) (for-tight b s w l k))),
+      rw (slots-are (c .before .before), c .before .before .before .before .block-length .ensures) (omega (arith, span-top b s (slotsFor b w * blockOf b - (w - b .phase)) (omega (arith, for-tight b s w l k)))),
       omega (arith, parts-le c),
     )
 

@@ -1,0 +1,5 @@
+pub mod Heart
+pub mod Invariant
+pub mod Figures
+pub mod Kept
+pub mod Good
