@@ -60,7 +60,7 @@ module _ (book : Book) (sound : Sound book) (item : ℕ) (small : item ≤ book 
         kept-low = omega arith;
         phase-high = block-low (book .bound) (book .tolerance);
         head-high = slot-after-lt (slotsOf book) (book .head) (sound .head-high);
-        carry-high = rw closed-carry (omega (arith, mod-lt (carryWith book item) (sound .ranges .tolerance-low)));
+        carry-high = omega (arith, closed-carry, mod-lt (carryWith book item) (sound .ranges .tolerance-low));
       }
 
   pub added-sound : Sound (added book item)

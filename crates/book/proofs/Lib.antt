@@ -6,3 +6,7 @@ pub mod Steps
 pub mod Figures
 pub mod Answers
 pub mod Keeps
+pub mod Zero
+pub mod Demand1
+pub mod Unique
+pub mod Adds

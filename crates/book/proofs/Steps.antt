@@ -7,9 +7,11 @@ use mathlib.Core.List.{List}
 use mathlib.Core.Path.{_≡_, refl, sym, ap, _∙_}
 use lib.ListN.{length}
 use lib.Pow.{pow-mono}
-use Rattle.ring.specs.Slot.{ringBytes}
+use Rattle.ring.specs.declared.Answer.{Answer}
+use Rattle.ring.specs.Slot.{ringBytes, written}
+use Rattle.ring.specs.Calls.{readAnswer, writeBytes, sumAnswer}
 use Rattle.ring.specs.Newest.{newest, sumNewest}
-use Rattle.ring.proofs.Promises.{Lent, lent-whole, field-lt, sum-le}
+use Rattle.ring.proofs.Promises.{Lent, lent-whole, read-reads, sum-sums, write-writes, field-lt, sum-le}
 use Rattle.book.specs.declared.Book.{Book}
 use Rattle.book.specs.Derived.{ceilDiv, blockLength, slotCount, largestQuotient, fieldWidth, bytesNeeded}
 use Rattle.book.specs.Record.{blockOf, slotsOf, widthOf, bytesOf, heldIn}
@@ -26,6 +28,29 @@ ring-lent bound n tolerance ring r room =
     lent-whole (fieldWidth bound tolerance) (slotCount bound n tolerance) ring
     (width-low bound n tolerance r) (width-high bound n tolerance r) (slots-low bound n tolerance r)
     (le-trans (slots-high bound n tolerance r) (r .length-high)) room
+
+-- a sound book's ring, for numbers that are the book's width, slots and slot
+module _ (book : Book) (ring : List ℕ) (sound : Sound book) (room : bytesOf book ≤ length ring) where
+  whole : Lent (widthOf book) (slotsOf book) (length ring)
+  whole = ring-lent (book .bound) (book .length) (book .tolerance) ring (sound .ranges) room
+
+  pub ring-sums : {w s h k : ℕ} (j : ℕ) → j ≤ slotsOf book → w ≡ widthOf book → s ≡ slotsOf book → h ≡ book .head → k ≡ j
+      → sumAnswer w s ring h k .value ≡ sumNewest (heldIn book ring) (slotsOf book) (book .head) j
+  ring-sums j most ew es eh ek =
+      (λ i. sumAnswer (ew i) (es i) ring (eh i) (ek i) .value)
+      ∙ ap (λ (r : Answer). r .value) (sum-sums (widthOf book) (slotsOf book) ring whole (book .head) (sound .head-high) j most)
+
+  pub ring-reads : {w s k : ℕ} (slot : ℕ) → slot < slotsOf book → w ≡ widthOf book → s ≡ slotsOf book → k ≡ slot
+      → readAnswer w s ring k .value ≡ heldIn book ring slot
+  ring-reads slot below ew es ek =
+      (λ i. readAnswer (ew i) (es i) ring (ek i) .value)
+      ∙ ap (λ (r : Answer). r .value) (read-reads (widthOf book) (slotsOf book) ring whole slot below)
+
+  pub ring-writes : {w s h : ℕ} (value : ℕ) → value < 2 ^ widthOf book → w ≡ widthOf book → s ≡ slotsOf book → h ≡ book .head
+      → writeBytes w s ring h value ≡ written (widthOf book) ring (book .head) value
+  ring-writes value fits ew es eh =
+      (λ i. writeBytes (ew i) (es i) ring (eh i) value)
+      ∙ write-writes (widthOf book) (slotsOf book) ring whole (book .head) (sound .head-high) value fits
 
 -- what a slot holds is at most 65,535
 pub held-le : (book : Book) (ring : List ℕ) → Sound book → (slot : ℕ) → heldIn book ring slot ≤ 65535

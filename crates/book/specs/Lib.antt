@@ -4,3 +4,4 @@ pub mod Sound
 pub mod Adding
 pub mod Figure
 pub mod Calls
+pub mod Every

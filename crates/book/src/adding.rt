@@ -4,7 +4,7 @@ ghost use Prim.Native.Nat.{_≤_, _<_};
 ghost use lib.ListN.{length};
 ghost use Rattle.book.specs.Record.{bytesOf, changed};
 ghost use Rattle.book.specs.Sound.{Sound};
-ghost use Rattle.book.specs.Adding.{slotAfter, keptMore, added, addedRing};
+ghost use Rattle.book.specs.Adding.{carryWith, slotAfter, keptMore, added, addedRing};
 use crate::Book;
 use crate::derived::block_length;
 use crate::derived::slot_count;
@@ -23,6 +23,14 @@ fn with(book: Book, carry: u64, phase: u64, kept: u64, head: u64) -> Book
         kept,
         head,
     }
+}
+
+// R grows by the item.
+fn grown(book: Book, item: u64) -> u64
+    requires { ⌜ (book .carry ≤ 1073741824) × (item ≤ 65535) ⌝ }
+    ensures { λ r. ⌜ r ≡ carryWith book item ⌝ }
+{
+    book.carry + item
 }
 
 // Head moves on by one, from the last slot to 0.
@@ -50,7 +58,7 @@ pub(crate) fn add(book: Book, ring: &mut [u8], item: u64) -> Book
     requires { ⌜ Sound book × (item ≤ book .bound) × (bytesOf book ≤ length (now ring)) ⌝ }
     ensures { λ r. ⌜ (r ≡ added book item) × (now (ring .exit) ≡ addedRing book (now (ring .entry)) item) ⌝ }
 {
-    let carry = book.carry + item;
+    let carry = grown(book, item);
     let kept = kept_more(book);
     let phase = book.phase + 1;
     if phase != block_length(book.bound, book.tolerance) {

@@ -23,7 +23,7 @@ use Rattle.demands.specs.History.{sumOf, trueTotal}
 use Rattle.demands.proofs.Invariant.{Invariant}
 
 -- a fresh book
-pub opened-keeps : (bound n tolerance : ℕ) (held : ℕ → ℕ) → Ranges bound n tolerance → Invariant (opened bound n tolerance) held []
+unfoldable pub opened-keeps : (bound n tolerance : ℕ) (held : ℕ → ℕ) → Ranges bound n tolerance → Invariant (opened bound n tolerance) held []
 unfolding trueTotal sumOf
 opened-keeps bound n tolerance held r =
     record {
@@ -42,7 +42,7 @@ opened-keeps bound n tolerance held r =
     nothing (suc i) h = absurd (omega arith)
 
 -- what had come in before the newest i items, after one more item
-abbrev shifted : (ℕ → ℕ) → ℕ → ℕ → ℕ
+abbrev pub shifted : (ℕ → ℕ) → ℕ → ℕ → ℕ
 shifted before item zero = before 0 + item
 shifted before item (suc i) = before i
 
@@ -75,21 +75,21 @@ newest-other slots head j h low high e = by (le-or-lt j head)
     by (inr far) = omega (arith, sym e ∙ newest-far slots head j far (omega arith))
 
 module _ (book : Book) (held : ℕ → ℕ) (items : List ℕ) (inv : Invariant book held items) (item : ℕ) (small : item ≤ book .bound) where
-  more-falls : (i : ℕ) → shifted (inv .before) item (suc i) ≤ shifted (inv .before) item i
+  pub more-falls : (i : ℕ) → shifted (inv .before) item (suc i) ≤ shifted (inv .before) item i
   more-falls zero = omega arith
   more-falls (suc i) = inv .falls i
 
-  more-slowly : (i : ℕ) → shifted (inv .before) item i ≤ shifted (inv .before) item (suc i) + book .bound
+  pub more-slowly : (i : ℕ) → shifted (inv .before) item i ≤ shifted (inv .before) item (suc i) + book .bound
   more-slowly zero = omega arith
   more-slowly (suc i) = inv .slowly i
 
-  more-totals : (i : ℕ) → i ≤ min (book .length) (book .kept + 1) → trueTotal i (item ∷ items) + shifted (inv .before) item i ≡ inv .before 0 + item
+  pub more-totals : (i : ℕ) → i ≤ min (book .length) (book .kept + 1) → trueTotal i (item ∷ items) + shifted (inv .before) item i ≡ inv .before 0 + item
   unfolding trueTotal sumOf
   more-totals zero h = omega arith
   more-totals (suc i) h = omega (arith, inv .totals i (omega arith))
 
   -- the block stays open
-  pub open-keeps : (book .phase + 1 ≡ blockOf book → ⊥) → Invariant (addedOpen book item) held (item ∷ items)
+  unfoldable pub open-keeps : (book .phase + 1 ≡ blockOf book → ⊥) → Invariant (addedOpen book item) held (item ∷ items)
   open-keeps more =
       record {
         before = shifted (inv .before) item;
@@ -116,7 +116,7 @@ module _ (book : Book) (held : ℕ → ℕ) (items : List ℕ) (inv : Invariant 
         let all : inv .before 0 + item ≡ carryWith book item + book .tolerance * m = omega (arith, inv .carried) in
         sym (ap (λ (n : ℕ). n / book .tolerance) all ∙ add-mul-div-left (carryWith book item) m (inv .sound .ranges .tolerance-low))
 
-    closed-carried : carryWith book item - quotientOf book item * book .tolerance
+    pub closed-carried : carryWith book item - quotientOf book item * book .tolerance
         + book .tolerance * ((inv .before 0 + item) / book .tolerance) ≡ inv .before 0 + item
     closed-carried =
         omega (
@@ -140,7 +140,7 @@ module _ (book : Book) (held : ℕ → ℕ) (items : List ℕ) (inv : Invariant 
             ))
         by (inr inside) = inside
 
-    closed-blocks : (j : ℕ) → 0 + j * blockOf book < min (book .length) (book .kept + 1)
+    pub closed-blocks : (j : ℕ) → 0 + j * blockOf book < min (book .length) (book .kept + 1)
         → held′ (newest (slotsOf book) (slotAfter (slotsOf book) (book .head)) (suc j))
         + shifted (inv .before) item (0 + suc j * blockOf book) / book .tolerance
         ≡ shifted (inv .before) item (0 + j * blockOf book) / book .tolerance
@@ -159,7 +159,7 @@ module _ (book : Book) (held : ℕ → ℕ) (items : List ℕ) (inv : Invariant 
         rw (newest-after (slotsOf book) (book .head) (suc j) (inv .sound .head-high), others slot other, here, next)
         (inv .blocks j (omega arith))
 
-    pub closed-keeps : Invariant (addedClosed book item) held′ (item ∷ items)
+    unfoldable pub closed-keeps : Invariant (addedClosed book item) held′ (item ∷ items)
     closed-keeps =
         record {
           before = shifted (inv .before) item;

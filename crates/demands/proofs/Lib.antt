@@ -3,3 +3,5 @@ pub mod Invariant
 pub mod Figures
 pub mod Kept
 pub mod Good
+pub mod Follows
+pub mod Blocks

@@ -2,7 +2,7 @@
 use Prim.Native.Nat.{ℕ, _+_}
 use mathlib.Core.List.{List, [], _∷_}
 use mathlib.Core.Path.{_≡_}
-use lib.ListN.{length, take}
+use lib.ListN.{length, take, drop}
 use Rattle.refusals.specs.First.{unlessRefused}
 use Rattle.book.specs.declared.Book.{Book}
 use Rattle.book.specs.Calls.{openRefusal, openAnswer, openBytes, addRefusal, addAnswer, addBytes}
@@ -28,3 +28,7 @@ sumOf (item ∷ older) = item + sumOf older
 -- S, the true total of the last i items (document 004's ss)
 unfoldable pub trueTotal : ℕ → List ℕ → ℕ
 trueTotal i items = sumOf (take i items)
+
+-- what had come in before the last i items
+unfoldable pub older : ℕ → List ℕ → ℕ
+older i items = sumOf (drop i items)

@@ -1,2 +1,3 @@
 pub mod History
 pub mod Demand2
+pub mod Replay

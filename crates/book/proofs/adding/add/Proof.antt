@@ -1,21 +1,29 @@
 -- `book::adding::add` meets its contract: the block stays open, or it closes and its quotient goes into the ring.
 -- Assumes nothing.
 use borrow.Author.Needs.{needs}
-use Prim.Native.Nat.{ℕ, _+_, _-_, _*_, _/_}
+use Prim.Native.Nat.{ℕ, _+_, _-_, _*_, _/_, _<_, _≤_, _^_}
 use mathlib.Core.Path.{_≡_, refl, sym, ap, ap₂, _∙_}
 use native.Mathlib.Omega.{arith}
-use borrow.Author.Tests.{eq-eqb, ne-eqb}
 use denote.Ref.{now}
 use native.Mathlib.Nat.{div-mul-le-self}
-use Rattle.book.specs.Record.{blockOf, slotsOf, changed}
-use Rattle.book.specs.Adding.{carryWith, quotientOf, slotAfter, added, addedRing}
+use Rattle.ring.specs.Slot.{written}
+use Rattle.book.specs.Record.{blockOf, slotsOf, widthOf, changed}
+use Rattle.book.specs.Adding.{carryWith, quotientOf, slotAfter}
 use Rattle.book.proofs.Steps.{carry-top, quotient-in}
-use Rattle.book.specs.declared.Book.{Book}
+use Rattle.book.proofs.Adds.{stays-open, ring-stays, block-closes, ring-takes}
 use Rattle.book.proofs.adding.add.Statement.{statement}
 use Rattle.book.proofs.adding.add.Tie as tie
 
-add-carry : tie.Need-add-carry
-add-carry c = omega (arith, carry-top (c .before .before .args .book) (c .before .before .pre .0), c .before .before .pre .0 .ranges .bound-high)
+quotient-back : (c : tie.After-struct-known3) → c .before .before .before .before .before .before .before .before .before .before .before .before .grown .result / c .before .before .before .before .before .before .before .before .before .before .before .before .before .before .args .book .tolerance * c .before .before .before .before .before .before .before .before .before .before .before .before .before .before .args .book .tolerance ≤ c .before .before .before .before .before .before .before .before .before .before .before .before .grown .result
+quotient-back c = div-mul-le-self (c .before .before .before .before .before .before .before .before .before .before .before .before .grown .result) (c .before .before .before .before .before .before .before .before .before .before .before .before .before .before .args .book .tolerance)
+
+carry-small : (c : tie.After-struct-known3) → c .before .before .before .before .before .before .before .before .before .before .before .before .grown .result ≤ 1073741824
+carry-small c =
+    let s = c .before .before .before .before .before .before .before .before .before .before .before .before .before .before .pre .0 in
+    omega (arith, c .before .before .before .before .before .before .before .before .before .before .before .before .grown .ensures, carry-top (c .before .before .before .before .before .before .before .before .before .before .before .before .before .before .args .book) s, s .ranges .bound-high, c .before .before .before .before .before .before .before .before .before .before .before .before .before .before .pre .1)
+
+grown-requires : tie.Need-grown-requires
+grown-requires c κs = (omega (arith, carry-top (c .before .args .book) (c .before .pre .0)), omega (arith, c .before .pre .0 .ranges .bound-high))
 
 kept-more-requires : tie.Need-kept-more-requires
 kept-more-requires c κs = search needs
@@ -30,13 +38,13 @@ with-requires : tie.Need-with-requires
 with-requires c κs = search needs
 
 returns : tie.Need-returns
-unfolding added addedRing
 returns c = let b = c .before .before .before .before .before .before .before .args .book in
     let x = c .before .before .before .before .before .before .before .args .item in
-    let open-still : b .phase + 1 ≡ blockOf b → ⊥ = λ e. c .before .if1 .taken (e ∙ sym (c .before .before .block-length .ensures)) in (
+    let more : b .phase + 1 ≡ blockOf b → ⊥ = λ e. c .before .if1 .taken (e ∙ sym (c .before .before .block-length .ensures)) in (
       c .with .ensures
-          ∙ rw (c .before .before .before .before .kept-more .ensures, ne-eqb (b .phase + 1) (blockOf b) open-still),
-      rw (ne-eqb (b .phase + 1) (blockOf b) open-still),
+          ∙ (λ i. changed b (c .before .before .before .before .before .grown .ensures i) (b .phase + 1) (c .before .before .before .before .kept-more .ensures i) (b .head))
+          ∙ stays-open b x more,
+      ring-stays b x (now (c .before .before .before .before .before .before .before .args .ring)) more,
     )
 
 div-quotient : tie.Need-div-quotient
@@ -44,8 +52,10 @@ div-quotient c = search needs
 
 put-requires : tie.Need-put-requires
 put-requires c κs = let b = c .before .before .before .before .before .before .before .before .args .book in
+    let x = c .before .before .before .before .before .before .before .before .args .item in
     let closes : b .phase + 1 ≡ blockOf b = c .before .before .if1 .left ∙ c .before .before .before .block-length .ensures in
-    (c .before .before .before .before .before .before .before .before .pre .0, c .before .before .before .before .before .before .before .before .pre .2, quotient-in b (c .before .before .before .before .before .before .before .before .pre .0) (c .before .before .before .before .before .before .before .before .args .item) (c .before .before .before .before .before .before .before .before .pre .1) closes)
+    let same : c .before .before .before .before .before .before .grown .result / b .tolerance ≡ quotientOf b x = ap (λ n. n / b .tolerance) (c .before .before .before .before .before .before .grown .ensures) in
+    (c .before .before .before .before .before .before .before .before .pre .0, c .before .before .before .before .before .before .before .before .pre .2, rw same (quotient-in b (c .before .before .before .before .before .before .before .before .pre .0) x (c .before .before .before .before .before .before .before .before .pre .1) closes))
 
 slot-count-requires : tie.Need-slot-count-requires
 slot-count-requires c κs = search needs
@@ -54,12 +64,10 @@ slot-after-requires : tie.Need-slot-after-requires
 slot-after-requires c κs = search needs
 
 mul-with : tie.Need-mul-with
-mul-with c = let b = c .before .before .before .before .before .before .before .before .before .before .before .before .before .before .args .book in
-    omega (arith, div-mul-le-self (b .carry + c .before .before .before .before .before .before .before .before .before .before .before .before .before .before .args .item) (b .tolerance), carry-top b (c .before .before .before .before .before .before .before .before .before .before .before .before .before .before .pre .0), c .before .before .before .before .before .before .before .before .before .before .before .before .before .before .pre .0 .ranges .bound-high, c .before .before .before .before .before .before .before .before .before .before .before .before .before .before .pre .1)
+mul-with c = omega (arith, quotient-back c, carry-small c)
 
 sub-with : tie.Need-sub-with
-sub-with c = let b = c .before .before .before .before .before .before .before .before .before .before .before .before .before .before .args .book in
-    div-mul-le-self (b .carry + c .before .before .before .before .before .before .before .before .before .before .before .before .before .before .args .item) (b .tolerance)
+sub-with c = quotient-back c
 
 with-requires-2 : tie.Need-with-requires-2
 with-requires-2 c κs = search needs
@@ -68,19 +76,25 @@ same-length : tie.Need-same-length
 same-length c = search needs
 
 returns-2 : tie.Need-returns-2
-unfolding added addedRing
 returns-2 c = let b = c .before .before .before .before .before .before .before .before .before .before .before .before .before .before .before .args .book in
-    let closes : b .phase + 1 ≡ blockOf b = c .before .before .before .before .before .before .before .before .before .if1 .left ∙ c .before .before .before .before .before .before .before .before .before .before .block-length .ensures in (
+    let x = c .before .before .before .before .before .before .before .before .before .before .before .before .before .before .before .args .item in
+    let ring = now (c .before .before .before .before .before .before .before .before .before .before .before .before .before .before .before .args .ring) in
+    let closes : b .phase + 1 ≡ blockOf b = c .before .before .before .before .before .before .before .before .before .if1 .left ∙ c .before .before .before .before .before .before .before .before .before .before .block-length .ensures in
+    let carry = c .before .before .before .before .before .before .before .before .before .before .before .before .before .grown .ensures in (
       c .with2 .ensures
-          ∙ rw (c .before .before .before .before .before .before .before .before .before .before .before .before .kept-more .ensures, c .before .before .slot-after .ensures, c .before .before .before .slot-count .ensures, eq-eqb (b .phase + 1) (blockOf b) closes),
-      c .before .before .before .before .before .before .put .ensures ∙ rw (eq-eqb (b .phase + 1) (blockOf b) closes),
+          ∙ (λ i. changed b (carry i - carry i / b .tolerance * b .tolerance) 0 (c .before .before .before .before .before .before .before .before .before .before .before .before .kept-more .ensures i)
+          ((c .before .before .slot-after .ensures ∙ ap (λ s. slotAfter s (b .head)) (c .before .before .before .slot-count .ensures)) i))
+          ∙ block-closes b x closes,
+      c .before .before .before .before .before .before .put .ensures
+          ∙ ap (λ q. written (widthOf b) ring (b .head) (q / b .tolerance)) carry
+          ∙ ring-takes b x ring closes,
     )
 
 pub add-spec : {M : Type 1} → statement M
 add-spec =
     tie.close
     (tie.spec
-    add-carry
+    grown-requires
     kept-more-requires
     add-phase
     block-length-requires

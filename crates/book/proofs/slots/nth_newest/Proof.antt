@@ -3,13 +3,12 @@
 use borrow.Author.Needs.{needs}
 use Prim.Native.Nat.{_<_}
 use mathlib.Core.Path.{_≡_, refl, sym, ap, ap₂, _∙_}
-use native.Mathlib.Omega.{arith}
 use denote.Ref.{now}
 use Rattle.ring.specs.declared.Answer.{Answer}
 use Rattle.ring.specs.Newest.{newest}
-use Rattle.ring.proofs.Promises.{read-reads, newest-lt}
-use Rattle.book.specs.Record.{widthOf, slotsOf}
-use Rattle.book.proofs.Steps.{ring-lent, slots-top}
+use Rattle.ring.proofs.Promises.{newest-lt}
+use Rattle.book.specs.Record.{slotsOf}
+use Rattle.book.proofs.Steps.{ring-reads, slots-top}
 use Rattle.book.proofs.slots.nth_newest.Statement.{statement}
 use Rattle.book.proofs.slots.nth_newest.Tie as tie
 
@@ -37,9 +36,12 @@ read-requires c κs = search needs
 
 returns : tie.Need-returns
 returns c = let b = c .before .before .before .before .before .before .before .before .args .book in
-    let slot = newest (slotsOf b) (b .head) (c .before .before .before .before .before .before .before .before .args .j) in
-    rw (c .read .ensures, c .before .before .before .index .ensures, c .before .before .index2 .ensures, c .before .index3 .ensures, c .before .before .before .before .place .ensures, c .before .before .before .before .before .before .field-width .ensures, c .before .before .before .before .before .slot-count .ensures)
-    (ap (λ (r : Answer). r .value) (read-reads (widthOf b) (slotsOf b) (now (c .before .before .before .before .before .before .before .before .args .ring)) (ring-lent (b .bound) (b .length) (b .tolerance) (now (c .before .before .before .before .before .before .before .before .args .ring)) (c .before .before .before .before .before .before .before .before .pre .0 .ranges) (c .before .before .before .before .before .before .before .before .pre .1)) slot (newest-lt (slotsOf b) (b .head) (c .before .before .before .before .before .before .before .before .args .j) (c .before .before .before .before .before .before .before .before .pre .0 .head-high))))
+    let p = c .before .before .before .before .before .before .before .before .pre in
+    let j = c .before .before .before .before .before .before .before .before .args .j in
+    ap (λ (r : Answer). r .value) (c .read .ensures)
+    ∙ ring-reads b (now (c .before .before .before .before .before .before .before .before .args .ring)) (p .0) (p .1) (newest (slotsOf b) (b .head) j) (newest-lt (slotsOf b) (b .head) j (p .0 .head-high))
+    (c .before .before .before .index .ensures ∙ c .before .before .before .before .before .before .field-width .ensures) (c .before .before .index2 .ensures ∙ c .before .before .before .before .before .slot-count .ensures)
+    (c .before .index3 .ensures ∙ c .before .before .before .before .place .ensures ∙ ap (λ s. newest s (b .head) j) (c .before .before .before .before .before .slot-count .ensures))
 
 pub nth-newest-spec : {M : Type 1} → statement M
 nth-newest-spec =

@@ -3,9 +3,7 @@
 use borrow.Author.Needs.{needs}
 use mathlib.Core.Path.{_≡_, refl, sym, ap, ap₂, _∙_}
 use denote.Ref.{now}
-use Rattle.ring.proofs.Promises.{write-writes}
-use Rattle.book.specs.Record.{widthOf, slotsOf}
-use Rattle.book.proofs.Steps.{ring-lent}
+use Rattle.book.proofs.Steps.{ring-writes}
 use Rattle.book.proofs.slots.put.Statement.{statement}
 use Rattle.book.proofs.slots.put.Tie as tie
 
@@ -32,9 +30,10 @@ same-length c = search needs
 
 returns : tie.Need-returns
 returns c = let b = c .before .before .before .before .before .before .before .before .before .before .args .book in
+    let p = c .before .before .before .before .before .before .before .before .before .before .pre in
     c .before .before .write .ensures .1
-    ∙ rw (c .before .before .before .before .before .before .index .ensures, c .before .before .before .before .before .index2 .ensures, c .before .before .before .index3 .ensures, c .before .before .before .before .before .before .before .before .field-width .ensures, c .before .before .before .before .before .before .before .slot-count .ensures)
-    (write-writes (widthOf b) (slotsOf b) (now (c .before .before .before .before .before .before .before .before .before .before .args .ring)) (ring-lent (b .bound) (b .length) (b .tolerance) (now (c .before .before .before .before .before .before .before .before .before .before .args .ring)) (c .before .before .before .before .before .before .before .before .before .before .pre .0 .ranges) (c .before .before .before .before .before .before .before .before .before .before .pre .1)) (b .head) (c .before .before .before .before .before .before .before .before .before .before .pre .0 .head-high) (c .before .before .before .before .before .before .before .before .before .before .args .value) (c .before .before .before .before .before .before .before .before .before .before .pre .2))
+    ∙ ring-writes b (now (c .before .before .before .before .before .before .before .before .before .before .args .ring)) (p .0) (p .1) (c .before .before .before .before .before .before .before .before .before .before .args .value) (p .2)
+    (c .before .before .before .before .before .before .index .ensures ∙ c .before .before .before .before .before .before .before .before .field-width .ensures) (c .before .before .before .before .before .index2 .ensures ∙ c .before .before .before .before .before .before .before .slot-count .ensures) (c .before .before .before .index3 .ensures)
 
 pub put-spec : {M : Type 1} → statement M
 put-spec =

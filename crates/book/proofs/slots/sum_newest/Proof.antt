@@ -1,12 +1,11 @@
 -- `book::slots::sum_newest` meets its contract: the ring is lent whole, so it promises the sum.
 -- Assumes nothing.
 use borrow.Author.Needs.{needs}
+use Prim.Native.Nat.{ℕ}
 use mathlib.Core.Path.{_≡_, refl, sym, ap, ap₂, _∙_}
 use denote.Ref.{now}
 use Rattle.ring.specs.declared.Answer.{Answer}
-use Rattle.ring.proofs.Promises.{sum-sums}
-use Rattle.book.specs.Record.{widthOf, slotsOf}
-use Rattle.book.proofs.Steps.{ring-lent}
+use Rattle.book.proofs.Steps.{ring-sums}
 use Rattle.book.proofs.slots.sum_newest.Statement.{statement}
 use Rattle.book.proofs.slots.sum_newest.Tie as tie
 
@@ -33,8 +32,11 @@ sum-requires c κs = search needs
 
 returns : tie.Need-returns
 returns c = let b = c .before .before .before .before .before .before .before .before .args .book in
-    rw (c .sum .ensures, c .before .before .before .before .index .ensures, c .before .before .before .index2 .ensures, c .before .before .index3 .ensures, c .before .index4 .ensures, c .before .before .before .before .before .before .field-width .ensures, c .before .before .before .before .before .slot-count .ensures)
-    (ap (λ (r : Answer). r .value) (sum-sums (widthOf b) (slotsOf b) (now (c .before .before .before .before .before .before .before .before .args .ring)) (ring-lent (b .bound) (b .length) (b .tolerance) (now (c .before .before .before .before .before .before .before .before .args .ring)) (c .before .before .before .before .before .before .before .before .pre .0 .ranges) (c .before .before .before .before .before .before .before .before .pre .1)) (b .head) (c .before .before .before .before .before .before .before .before .pre .0 .head-high) (c .before .before .before .before .before .before .before .before .args .j) (c .before .before .before .before .before .before .before .before .pre .2)))
+    let p = c .before .before .before .before .before .before .before .before .pre in
+    ap (λ (r : Answer). r .value) (c .sum .ensures)
+    ∙ ring-sums b (now (c .before .before .before .before .before .before .before .before .args .ring)) (p .0) (p .1) (c .before .before .before .before .before .before .before .before .args .j) (p .2)
+    (c .before .before .before .before .index .ensures ∙ c .before .before .before .before .before .before .field-width .ensures) (c .before .before .before .index2 .ensures ∙ c .before .before .before .before .before .slot-count .ensures)
+    (c .before .before .index3 .ensures) (c .before .index4 .ensures)
 
 pub sum-newest-spec : {M : Type 1} → statement M
 sum-newest-spec =

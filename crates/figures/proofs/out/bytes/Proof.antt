@@ -1,10 +1,10 @@
--- `figures::bytes` ends and reads no byte past the end.
+-- `figures::out::bytes` ends and reads no byte past the end.
 -- Assumes nothing.
 use Prim.Native.Nat.{_≤_, _-_}
 use native.Mathlib.Omega.{arith}
 use lib.ListN.{length}
-use Rattle.figures.proofs.bytes.Statement.{statement}
-use Rattle.figures.proofs.bytes.Tie as tie
+use Rattle.figures.proofs.out.bytes.Statement.{statement}
+use Rattle.figures.proofs.out.bytes.Tie as tie
 
 abbrev Inv-loop : tie.InvT-loop
 Inv-loop s i₀ i = i ≤ length s

@@ -1,0 +1,60 @@
+-- Demand 1 for every call of the book, each law stated once over all calls.
+-- Assumes nothing.
+use Prim.Native.Nat.{ℕ, suc, _<_}
+use mathlib.Core.List.{List, [], _∷_}
+use mathlib.Core.Path.{_≡_, refl}
+use lib.Dec.{lit<}
+use lib.ListN.{length}
+use Rattle.refusals.specs.First.{firstOf}
+use Rattle.refusals.proofs.Laws.{refused-keeps, Numbered, FirstThatHolds, first-holds, NoneHolds, nothing-holds, none-refuses}
+use Rattle.ring.specs.Slot.{cleared}
+use Rattle.book.specs.declared.Book.{Book}
+use Rattle.book.specs.Derived.{fieldWidth, slotCount}
+use Rattle.book.specs.Record.{opened, noBookAtAll}
+use Rattle.book.specs.Adding.{added, addedRing}
+use Rattle.book.specs.Figure.{figure}
+use Rattle.book.specs.Calls.{openRefusal, openAnswer, openBytes, addRefusal, addAnswer, addBytes, totalRefusal, totalAnswer}
+use Rattle.book.specs.Every.{Call, opening, adding, totalling, faultsOf, outcome, handedBack}
+
+-- ledger 1.2: the refusal is the first fault that holds …
+pub refusal-is : (call : Call) (ring : List ℕ) → outcome call ring .refusal ≡ firstOf (faultsOf call ring)
+unfolding openAnswer openRefusal addAnswer addRefusal totalAnswer totalRefusal
+refusal-is (opening bound n tolerance) ring = refl
+refusal-is (adding book item) ring = refl
+refusal-is (totalling book window) ring = refl
+
+-- the eight faults of a record that is no book, and a ring that is too short
+book-numbered : {A : Type 0} → A → (0 < 8) × ((0 < 8) × ((0 < 8) × ((0 < 8) × ((0 < 8) × ((0 < 8) × ((0 < 8) × ((0 < 8) × ((0 < 4) × A))))))))
+book-numbered rest =
+    (lit< tt, (lit< tt, (lit< tt, (lit< tt, (lit< tt, (lit< tt, (lit< tt, (lit< tt, (lit< tt, rest)))))))))
+
+numbered : (call : Call) (ring : List ℕ) → Numbered (faultsOf call ring)
+numbered (opening bound n tolerance) ring = (lit< tt, (lit< tt, (lit< tt, (lit< tt, tt))))
+numbered (adding book item) ring = book-numbered (lit< tt, tt)
+numbered (totalling book window) ring = book-numbered (lit< tt, tt)
+
+pub refusal-first : (call : Call) (ring : List ℕ) (n : ℕ) → outcome call ring .refusal ≡ suc n → FirstThatHolds (faultsOf call ring) (suc n)
+refusal-first call ring n e = first-holds (faultsOf call ring) n (numbered call ring) (rw (refusal-is call ring) at e)
+
+-- … and 0 exactly when none holds
+pub taken-none : (call : Call) (ring : List ℕ) → outcome call ring .refusal ≡ 0 → NoneHolds (faultsOf call ring)
+taken-none call ring e = nothing-holds (faultsOf call ring) (numbered call ring) (rw (refusal-is call ring) at e)
+
+pub none-taken : (call : Call) (ring : List ℕ) → NoneHolds (faultsOf call ring) → outcome call ring .refusal ≡ 0
+none-taken call ring h = rw (refusal-is call ring) (none-refuses (faultsOf call ring) h)
+
+-- ledger 1.3 and 1.4: a refusal hands the record back as it came (all zeros at opening), gives 0 and leaves every byte as it was
+pub refused-changes-nothing : (call : Call) (ring : List ℕ) → (outcome call ring .refusal ≡ 0 → ⊥)
+    → (outcome call ring .book ≡ handedBack call) × (outcome call ring .value ≡ 0) × (outcome call ring .bytes ≡ ring)
+unfolding openAnswer openBytes addAnswer addBytes totalAnswer
+refused-changes-nothing (opening bound n tolerance) ring ne =
+    let m : ℕ = openRefusal bound n tolerance (length ring) in (
+      refused-keeps m (opened bound n tolerance) noBookAtAll refl ne,
+      refl,
+      refused-keeps m (cleared (fieldWidth bound tolerance) (slotCount bound n tolerance) ring) ring refl ne,
+    )
+refused-changes-nothing (adding book item) ring ne =
+    let m : ℕ = addRefusal book (length ring) item in
+    (refused-keeps m (added book item) book refl ne, refl, refused-keeps m (addedRing book ring item) ring refl ne)
+refused-changes-nothing (totalling book window) ring ne =
+    (refl, refused-keeps (totalRefusal book (length ring) window) (figure book ring window) 0 refl ne, refl)
