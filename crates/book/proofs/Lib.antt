@@ -10,3 +10,7 @@ pub mod Zero
 pub mod Demand1
 pub mod Unique
 pub mod Adds
+pub mod Reaching
+pub mod Walk
+pub mod Walking
+pub mod Named

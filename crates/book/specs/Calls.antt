@@ -1,18 +1,23 @@
 -- What each call of the book answers and leaves, for every input, with its refusals in paper 01's order.
 use Prim.Native.Nat.{ℕ, _+_, _-_, _*_}
 use mathlib.Core.List.{List, [], _∷_, _++_}
-use lib.Dec.{ltb, leb}
+use lib.Dec.{ltb, leb, eqb}
 use lib.ListN.{length}
-use Rattle.refusals.specs.Numbers.{badBound, badLength, badTolerance, ringTooShort, windowTooLong, itemTooLarge, noBook}
+use Rattle.refusals.specs.Numbers.{badBound, badLength, badTolerance, ringTooShort, windowTooLong, zeroAsked, itemTooLarge, noBook, notReached}
 use Rattle.refusals.specs.First.{Fault, _gives_, firstOf, unlessRefused, outside}
 use Rattle.ring.specs.Slot.{cleared}
 use Rattle.book.specs.declared.Book.{Book}
 use Rattle.book.specs.declared.Updated.{Updated}
 use Rattle.book.specs.declared.Figure.{Figure}
+use Rattle.book.specs.declared.Window.{Window}
+use Rattle.book.specs.declared.verdicts.Ruling.{Ruling}
+use Rattle.book.specs.declared.verdicts.Ruling.the-variants.{Told, Refused}
 use Rattle.book.specs.Derived.{slotCount, fieldWidth, bytesNeeded}
 use Rattle.book.specs.Record.{blockOf, slotsOf, bytesOf, opened, noBookAtAll}
 use Rattle.book.specs.Adding.{added, addedRing}
 use Rattle.book.specs.Figure.{figure}
+use Rattle.book.specs.HowFar.{howFarBack}
+use Rattle.book.specs.Verdict.{verdictOf}
 
 -- 1, 2, 3: L is not 1 to 65,535, n is not 1 to 4,096, D is 0 or above n·L
 abbrev pub numberFaults : ℕ → ℕ → ℕ → List Fault
@@ -57,6 +62,20 @@ addFaults book lent item = bookFaults book lent ++ (ltb (book .bound) item gives
 abbrev pub totalFaults : Book → ℕ → ℕ → List Fault
 totalFaults book lent window = bookFaults book lent ++ (ltb (book .kept) window gives windowTooLong) ∷ []
 
+-- 8, 4, then 6, an amount of 0: a question about an amount begins with these
+abbrev pub askFaults : Book → ℕ → ℕ → List Fault
+askFaults book lent amount = bookFaults book lent ++ (eqb amount 0 gives zeroAsked) ∷ []
+
+-- how far back: 8, 4, 6, then 9, not reached
+abbrev pub farFaults : Book → List ℕ → ℕ → List Fault
+farFaults book ring amount =
+    askFaults book (length ring) amount ++ (eqb (howFarBack book ring amount) 0 gives notReached) ∷ []
+
+-- verdict: 8, 4, 6 also for a window of 0, then 5, the window is longer than kept
+abbrev pub verdictFaults : Book → ℕ → ℕ → ℕ → List Fault
+verdictFaults book lent window amount =
+    askFaults book lent amount ++ (eqb window 0 gives zeroAsked) ∷ (ltb (book .kept) window gives windowTooLong) ∷ []
+
 unfoldable pub openRefusal : ℕ → ℕ → ℕ → ℕ → ℕ
 openRefusal bound length tolerance lent = firstOf (openFaults bound length tolerance lent)
 
@@ -65,6 +84,12 @@ addRefusal book lent item = firstOf (addFaults book lent item)
 
 unfoldable pub totalRefusal : Book → ℕ → ℕ → ℕ
 totalRefusal book lent window = firstOf (totalFaults book lent window)
+
+unfoldable pub farRefusal : Book → List ℕ → ℕ → ℕ
+farRefusal book ring amount = firstOf (farFaults book ring amount)
+
+unfoldable pub verdictRefusal : Book → ℕ → ℕ → ℕ → ℕ
+verdictRefusal book lent window amount = firstOf (verdictFaults book lent window amount)
 
 -- an answer that is a record: a refusal gives the other one
 abbrev pub updated : ℕ → Book → Book → Updated
@@ -91,3 +116,15 @@ unfoldable pub totalAnswer : Book → List ℕ → ℕ → Figure
 totalAnswer book ring window =
     let refusal = totalRefusal book (length ring) window in
     record { refusal = refusal; figure = unlessRefused refusal (figure book ring window) 0 }
+
+-- how far back: the window, or 0
+unfoldable pub farAnswer : Book → List ℕ → ℕ → Window
+farAnswer book ring amount =
+    let refusal = farRefusal book ring amount in
+    record { refusal = refusal; window = unlessRefused refusal (howFarBack book ring amount) 0 }
+
+-- verdict: told with its figure, or refused
+unfoldable pub verdictAnswer : Book → List ℕ → ℕ → ℕ → Ruling
+verdictAnswer book ring window amount =
+    let refusal = verdictRefusal book (length ring) window amount in
+    unlessRefused refusal (Told (verdictOf (book .tolerance) amount (figure book ring window))) (Refused refusal)

@@ -1,7 +1,10 @@
 pub mod Derived
 pub mod Record
 pub mod Sound
+pub mod Stops
 pub mod Adding
 pub mod Figure
+pub mod HowFar
+pub mod Verdict
 pub mod Calls
 pub mod Every

@@ -2,7 +2,7 @@
 ghost use mathlib.Core.Path.{_≡_};
 ghost use Rattle.refusals.specs.First.{firstOf};
 ghost use Rattle.book.specs.Sound.{Ranges};
-ghost use Rattle.book.specs.Calls.{numberFaults, rangeFaults, stateFaults, bookFaults, openRefusal, addRefusal, totalRefusal};
+ghost use Rattle.book.specs.Calls.{numberFaults, rangeFaults, stateFaults, bookFaults, askFaults, openRefusal, addRefusal, totalRefusal, verdictRefusal};
 use crate::Book;
 use crate::derived::block_length;
 use crate::derived::bytes_needed;
@@ -14,6 +14,7 @@ use refusals::ITEM_TOO_LARGE;
 use refusals::NO_BOOK;
 use refusals::RING_TOO_SHORT;
 use refusals::WINDOW_TOO_LONG;
+use refusals::ZERO_ASKED;
 
 // 1, 2, 3: L, n and D in their ranges.
 fn numbers(bound: u64, length: u64, tolerance: u64) -> u8
@@ -112,6 +113,36 @@ pub(crate) fn total(book: Book, lent: u64, window: u64) -> u8
     let refusal = usable(book, lent);
     if refusal != 0 {
         return refusal;
+    }
+    if book.kept < window {
+        return WINDOW_TOO_LONG;
+    }
+    0
+}
+
+// 8, 4, then 6: what a question about an amount asks first.
+pub(crate) fn ask(book: Book, lent: u64, amount: u64) -> u8
+    ensures { λ r. ⌜ r ≡ firstOf (askFaults book lent amount) ⌝ }
+{
+    let refusal = usable(book, lent);
+    if refusal != 0 {
+        return refusal;
+    }
+    if amount == 0 {
+        return ZERO_ASKED;
+    }
+    0
+}
+
+pub(crate) fn verdict(book: Book, lent: u64, window: u64, amount: u64) -> u8
+    ensures { λ r. ⌜ r ≡ verdictRefusal book lent window amount ⌝ }
+{
+    let refusal = ask(book, lent, amount);
+    if refusal != 0 {
+        return refusal;
+    }
+    if window == 0 {
+        return ZERO_ASKED;
     }
     if book.kept < window {
         return WINDOW_TOO_LONG;

@@ -2,13 +2,17 @@
 // The record goes in and comes back by value, the ring is lent. What each call answers and leaves is defined in specs/Calls.antt.
 ghost use mathlib.Core.Path.{_≡_};
 ghost use Rattle.book.specs.Record.{opened};
-ghost use Rattle.book.specs.Calls.{openAnswer, openBytes, addAnswer, addBytes, totalAnswer};
+ghost use Rattle.book.specs.Calls.{openAnswer, openBytes, addAnswer, addBytes, totalAnswer, farAnswer, verdictAnswer};
+use refusals::NOT_REACHED;
+use verdicts::Ruling;
 
 mod adding;
 mod derived;
+mod distance;
 mod judge;
 mod slots;
 mod totals;
+pub mod verdicts;
 
 // L, n and D, which opening sets; the carry R, the phase p, kept and head, which adding changes.
 #[repr(C)]
@@ -27,6 +31,13 @@ pub struct Book {
 pub struct Updated {
     pub refusal: u8,
     pub book: Book,
+}
+
+// A refusal number, 0 for none, and a window, which is 0 at a refusal.
+#[repr(C)]
+pub struct Window {
+    pub refusal: u8,
+    pub window: u64,
 }
 
 // A refusal number, 0 for none, and a figure, which is 0 at a refusal.
@@ -96,4 +107,34 @@ pub fn total(book: Book, ring: &[u8], window: u64) -> Figure
         refusal: 0,
         figure: totals::figure_of(book, ring, window),
     }
+}
+
+// How far back for an amount: the shortest window whose figure reaches it.
+pub fn far(book: Book, ring: &[u8], amount: u64) -> Window
+    ensures { λ r. ⌜ r ≡ farAnswer book (now (ring .entry)) amount ⌝ }
+{
+    let refusal = judge::ask(book, derived::count(ring.len()), amount);
+    if refusal != 0 {
+        return Window { refusal, window: 0 };
+    }
+    let window = distance::how_far(book, ring, amount);
+    if window == 0 {
+        return Window {
+            refusal: NOT_REACHED,
+            window: 0,
+        };
+    }
+    Window { refusal: 0, window }
+}
+
+// The verdict for a window and an amount.
+pub fn verdict(book: Book, ring: &[u8], window: u64, amount: u64) -> Ruling
+    ensures { λ r. ⌜ r ≡ verdictAnswer book (now (ring .entry)) window amount ⌝ }
+{
+    let refusal = judge::verdict(book, derived::count(ring.len()), window, amount);
+    if refusal != 0 {
+        return Ruling::Refused(refusal);
+    }
+    let figure = totals::figure_of(book, ring, window);
+    Ruling::Told(verdicts::rule(book.tolerance, amount, figure))
 }

@@ -3,8 +3,8 @@ ghost use mathlib.Core.Path.{_≡_};
 ghost use Prim.Native.Nat.{_≤_, _<_, _^_};
 ghost use lib.ListN as List;
 ghost use lib.ListN.{length};
-ghost use Rattle.ring.specs.Slot.{written, cleared};
-ghost use Rattle.ring.specs.Newest.{newest, sumNewest};
+ghost use Rattle.ring.specs.Slot.{ringBytes, field, written, cleared};
+ghost use Rattle.ring.specs.Newest.{slotBefore, newest, sumNewest};
 ghost use Rattle.book.specs.Record.{slotsOf, widthOf, bytesOf, heldIn};
 ghost use Rattle.book.specs.Sound.{Ranges, Sound};
 ghost use Rattle.book.specs.Derived.{fieldWidth, slotCount, bytesNeeded};
@@ -37,6 +37,22 @@ pub(crate) fn sum_newest(book: Book, ring: &[u8], j: u64) -> u64
     let width = field_width(book.bound, book.length, book.tolerance);
     let slots = slot_count(book.bound, book.length, book.tolerance);
     ring::sum(index(width), index(slots), ring, index(book.head), index(j)).value
+}
+
+// The slot before a slot; before 0 stands the last one.
+pub(crate) fn before(slots: u64, slot: u64) -> u64
+    requires { ⌜ slot < slots ⌝ }
+    ensures { λ r. ⌜ r ≡ slotBefore slots slot ⌝ }
+{
+    if slot == 0 { slots - 1 } else { slot - 1 }
+}
+
+// What a slot holds, in a ring that is lent whole.
+pub(crate) fn get(width: u64, slots: u64, ring: &[u8], slot: u64) -> u64
+    requires { ⌜ (1 ≤ width) × (width ≤ 16) × (slots ≤ 4096) × (ringBytes width slots ≤ length (now ring)) × (slot < slots) ⌝ }
+    ensures { λ r. ⌜ r ≡ field width (now (ring .entry)) slot ⌝ }
+{
+    ring::read(index(width), index(slots), ring, index(slot)).value
 }
 
 // The j-th newest slot before head, in one step.

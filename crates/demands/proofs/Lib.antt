@@ -5,3 +5,5 @@ pub mod Kept
 pub mod Good
 pub mod Follows
 pub mod Blocks
+pub mod Distance
+pub mod Verdicts

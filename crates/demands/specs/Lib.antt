@@ -1,3 +1,4 @@
 pub mod History
 pub mod Demand2
 pub mod Replay
+pub mod Demand3

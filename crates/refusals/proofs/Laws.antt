@@ -2,11 +2,11 @@
 -- Assumes nothing.
 use Prim.Native.Nat.{ℕ, zero, suc, _≤_, _<_}
 use native.Mathlib.Omega.{arith}
-use mathlib.Core.Bool.{Bool, true, false, cond, _||_}
+use mathlib.Core.Bool.{Bool, true, false, not, cond, _&&_, _||_}
 use mathlib.Core.List.{List, [], _∷_, _++_}
 use mathlib.Core.Path.{_≡_, refl, sym, ap, _∙_}
-use borrow.Author.Tests.{le-ltb, ltb-false}
-use lib.Dec.{ltb}
+use borrow.Author.Tests.{le-ltb, ltb-false, eqb-false}
+use lib.Dec.{T, ltb, eqb}
 use Rattle.refusals.specs.Settled.{Settles}
 use Rattle.refusals.specs.First.{Fault, _gives_, orElse, firstOf, unlessRefused, outside}
 
@@ -114,3 +114,20 @@ first-holds ((false gives number) ∷ later) refusal n e =
       split = ap (λ (l : List Fault). (false gives number) ∷ l) (r .split);
       none-earlier = (refl, r .none-earlier);
     }
+
+-- no fault of the list has the number k: a test that computes, since the numbers are written out
+abbrev pub avoids : ℕ → List Fault → Bool
+avoids k [] = true
+avoids k ((holds gives number) ∷ later) = not (eqb number k) && avoids k later
+
+-- then the refusal is not k
+pub first-avoids : (k : ℕ) (faults : List Fault) → T (avoids (suc k) faults) → firstOf faults ≡ suc k → ⊥
+first-avoids k [] t e = omega arith
+first-avoids k ((holds gives number) ∷ later) t e = by holds number (eqb number (suc k)) refl t e (first-avoids k later)
+  where
+    by : (h : Bool) (n : ℕ) (b : Bool) → eqb n (suc k) ≡ b → T (not b && avoids (suc k) later)
+        → firstOf ((h gives n) ∷ later) ≡ suc k → (T (avoids (suc k) later) → firstOf later ≡ suc k → ⊥) → ⊥
+    by h n true q s r rest = s
+    by false n false q s r rest = rest s r
+    by true zero false q s r rest = rest s r
+    by true (suc n) false q s r rest = eqb-false (suc n) (suc k) q r
