@@ -1,0 +1,19 @@
+-- The one statement of the table (ledger W.1): in every row the definitions that the contracts cite answer what the paper gives.
+-- Assumes nothing.
+use mathlib.Core.List.{List, map}
+use mathlib.Core.Path.{_≡_, refl}
+use Rattle.ring.specs.Row.{digits, number, bits, packed}
+use Rattle.ring.specs.Slot.{ringBytes, field, written, cleared}
+use Rattle.ring.specs.Newest.{slotBefore, newest, sumNewest}
+use Rattle.book.specs.Derived.{ceilDiv, blockLength, slotCount, largestQuotient, digitsWithin, binaryDigits, fieldWidth, bytesNeeded}
+use Rattle.book.specs.Adding.{slotAfter, added, addedRing}
+use Rattle.book.specs.Figure.{reckoned, slotsFor, figureBy}
+use Rattle.book.specs.HowFar.{firstReaching, howFarBack}
+use Rattle.book.specs.Verdict.{verdictOf}
+use Rattle.book.specs.Calls.{openRefusal, openAnswer, openBytes, addRefusal, addAnswer, addBytes, totalRefusal, totalAnswer, farRefusal, farAnswer, verdictRefusal, verdictAnswer}
+use Rattle.demands.specs.History.{sumOf, trueTotal}
+use Rattle.cases.specs.Table.{table, answered, given}
+
+pub starred : map answered table ≡ map given table
+unfolding digits number bits packed ringBytes field written cleared slotBefore newest sumNewest ceilDiv blockLength slotCount largestQuotient digitsWithin binaryDigits fieldWidth bytesNeeded slotAfter added addedRing reckoned slotsFor figureBy firstReaching howFarBack verdictOf openRefusal openAnswer openBytes addRefusal addAnswer addBytes totalRefusal totalAnswer farRefusal farAnswer verdictRefusal verdictAnswer sumOf trueTotal
+starred = refl
