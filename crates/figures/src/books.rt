@@ -6,6 +6,8 @@ use crate::out::text;
 use crate::out::wide;
 use book::Book;
 use book::Updated;
+use book::verdicts::Ruling;
+use book::verdicts::Verdict;
 
 fn row(name: &[u8], r: Updated, ring: &[u8]) {
     text(name);
@@ -39,6 +41,50 @@ fn total(b: Book, ring: &[u8], window: u64) {
     number(wide(r.refusal));
     text(b" ");
     number(r.figure);
+    text(b"\n");
+}
+
+fn far(b: Book, ring: &[u8], amount: u64) {
+    let r = book::far(b, ring, amount);
+    text(b"how far back for ");
+    number(amount);
+    text(b": ");
+    number(wide(r.refusal));
+    text(b" ");
+    number(r.window);
+    text(b"\n");
+}
+
+fn told(v: Verdict) {
+    match v {
+        Verdict::Live(f) => {
+            text(b"live ");
+            number(f);
+        }
+        Verdict::Frozen(f) => {
+            text(b"frozen ");
+            number(f);
+        }
+        Verdict::Undecided(f) => {
+            text(b"undecided ");
+            number(f);
+        }
+    }
+}
+
+fn verdict(b: Book, ring: &[u8], window: u64, amount: u64) {
+    text(b"window ");
+    number(window);
+    text(b", amount ");
+    number(amount);
+    text(b": ");
+    match book::verdict(b, ring, window, amount) {
+        Ruling::Told(v) => told(v),
+        Ruling::Refused(refusal) => {
+            text(b"refused ");
+            number(wide(refusal));
+        }
+    }
     text(b"\n");
 }
 
@@ -95,6 +141,34 @@ fn short_openings(ring: &mut [u8]) {
 
 fn empty_opening(ring: &mut [u8]) {
     open(b"ring of no bytes", 5, 6, 10, ring);
+}
+
+// Case A: the amounts of the paper, and the ends of their ranges.
+fn questions(b: Book, ring: &[u8]) {
+    far(b, ring, 0);
+    far(b, ring, 1);
+    far(b, ring, 4);
+    far(b, ring, 5);
+    far(b, ring, 9);
+    far(b, ring, 14);
+    far(b, ring, 15);
+    far(b, ring, u64::MAX);
+    verdict(b, ring, 4, 0);
+    verdict(b, ring, 0, 9);
+    verdict(b, ring, 4, 9);
+    verdict(b, ring, 4, 10);
+    verdict(b, ring, 4, 18);
+    verdict(b, ring, 4, 19);
+    verdict(b, ring, 6, u64::MAX);
+    verdict(b, ring, 7, 1);
+}
+
+// Case F: nothing is kept yet.
+fn fresh_questions(b: Book, ring: &[u8]) {
+    far(b, ring, 1);
+    total(b, ring, 0);
+    total(b, ring, 1);
+    verdict(b, ring, 1, 1);
 }
 
 fn bad_items(b: Book, ring: &mut [u8]) {
@@ -160,6 +234,8 @@ fn largest_books(ring: &[u8]) {
     ask(b"largest R", made(5, 6, 10, m, 1, 6, 0), ring);
     ask(b"largest p", made(5, 6, 10, 13, m, 6, 0), ring);
     ask(b"largest kept", made(5, 6, 10, 13, 1, m, 0), ring);
+    far(made(m, m, m, m, m, m, m), ring, m);
+    verdict(made(m, m, m, m, m, m, m), ring, m, m);
     ask(b"largest head", made(5, 6, 10, 13, 1, 6, m), ring);
     total(made(5, 6, 10, 13, 1, 6, 0), ring, m);
 }
@@ -168,6 +244,7 @@ pub(crate) fn show() {
     text(b"case A\n");
     let mut a = [0xffu8; 2];
     let book_a = life(5, 6, 10, &mut a, &[3, 4, 5, 5, 0, 1, 5], 7);
+    questions(book_a, &a);
     bad_items(book_a, &mut a);
     text(b"case B\n");
     let mut b = [0u8; 1];
@@ -175,6 +252,10 @@ pub(crate) fn show() {
     text(b"case C\n");
     let mut c = [0u8; 2];
     life(9, 3, 1, &mut c, &[9, 0, 4, 2], 4);
+    text(b"case F\n");
+    let mut f = [0xffu8; 1];
+    let book_f = open(b"open", 5, 6, 10, &mut f);
+    fresh_questions(book_f, &f);
 }
 
 pub(crate) fn refusals() {
