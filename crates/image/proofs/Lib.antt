@@ -1,0 +1,9 @@
+pub mod Ahead
+pub mod Steps
+pub mod Runs
+pub mod Forms
+pub mod Largest
+pub mod Tags
+pub mod Chain
+pub mod Unique
+pub mod Demand1
