@@ -7,3 +7,4 @@ pub mod Tags
 pub mod Chain
 pub mod Unique
 pub mod Demand1
+pub mod Promises

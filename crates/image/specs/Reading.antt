@@ -1,5 +1,5 @@
 -- The whole reading of an image: the header's fields in order, then the raster. A refused reading has all numbers 0.
-use Prim.Native.Nat.{ℕ, zero, suc, _+_, _*_}
+use Prim.Native.Nat.{ℕ, _+_, _*_, _-_}
 use mathlib.Core.List.{List, [], _∷_}
 use lib.Dec.{ltb}
 use lib.ListN.{length, take, drop}
@@ -45,3 +45,7 @@ numbersOf s =
     andThen refusedWith (number end 1024 rest) λ height used rest.
     andThen refusedWith (number end 255 rest) λ maxval start rest.
     withRaster pixelBytes s width height maxval start
+
+-- the bytes of the raster: those from the header's end up to the bytes used
+abbrev pub rasterIn : List ℕ → List ℕ
+rasterIn s = let numbers = numbersOf s in take (numbers .used - numbers .start) (drop (numbers .start) s)

@@ -1,0 +1,5 @@
+pub mod Counts
+pub mod Refused
+pub mod Scored
+pub mod Demand1
+pub mod Unique
