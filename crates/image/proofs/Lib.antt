@@ -1,0 +1,17 @@
+pub mod Ahead
+pub mod Steps
+pub mod Runs
+pub mod Forms
+pub mod Largest
+pub mod Tags
+pub mod Chain
+pub mod Unique
+pub mod Demand1
+pub mod Link
+pub mod Refuses
+pub mod Exact
+pub mod OneReading
+pub mod Prefix
+pub mod Decided
+pub mod RoundTrip
+pub mod Promises

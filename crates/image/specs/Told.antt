@@ -1,0 +1,19 @@
+-- How the answers of the code's own steps stand for the steps of the definitions. Only contracts of private functions speak of this.
+use Prim.Native.Nat.{ℕ}
+use mathlib.Core.Bool.{cond}
+use mathlib.Core.List.{List}
+use Rattle.refusals.specs.Numbers.{numberOutOfRange}
+use Rattle.refusals.specs.First.{unlessRefused, outside}
+use Rattle.image.specs.declared.bytes.Took.{Took}
+use Rattle.image.specs.Seen.{ahead}
+use Rattle.image.specs.Step.{Step, stopped, found}
+
+-- the step that an answer tells of: with no refusal, its value and the bytes that are still ahead
+unfoldable pub told : List ℕ → Took → Step
+told s took = unlessRefused (took .refusal) (found (took .value) (took .used) (ahead s (took .used))) (stopped (took .refusal))
+
+-- the answer at the white byte after a number
+unfoldable pub judgedTook : ℕ → ℕ → ℕ → Took
+judgedTook top value used =
+    cond (outside 1 top value) record { refusal = numberOutOfRange; value = 0; used = 0 }
+    record { refusal = 0; value = value; used = used }

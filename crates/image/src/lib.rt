@@ -1,0 +1,52 @@
+// Reads a binary PGM image from bytes that the caller lends: its numbers by one call, its raster as a part of those bytes by another.
+// Every slice gets an answer; what it is stands in specs/Reading.antt and specs/Part.antt.
+ghost use mathlib.Core.Path.{_≡_};
+ghost use Rattle.image.specs.Reading.{numbersOf};
+ghost use Rattle.image.specs.Part.{partOf, rasterOf};
+
+mod bytes;
+mod fields;
+mod pixels;
+
+// The numbers of an image: the raster lies in the bytes from `start` up to `used`. With a refusal all others are 0.
+pub struct Numbers {
+    pub refusal: u8,
+    pub width: usize,
+    pub height: usize,
+    pub maxval: usize,
+    pub start: usize,
+    pub used: usize,
+}
+
+// The numbers of the image at the start of the slice.
+pub fn header(s: &[u8]) -> Numbers
+    ensures { λ r. ⌜ r ≡ numbersOf (now (s .entry)) ⌝ }
+{
+    let magic = fields::magic(s, 53);
+    if magic.refusal != 0 {
+        return pixels::refused(magic.refusal);
+    }
+    let width = fields::number(s, magic.used, 1024);
+    if width.refusal != 0 {
+        return pixels::refused(width.refusal);
+    }
+    let height = fields::number(s, width.used, 1024);
+    if height.refusal != 0 {
+        return pixels::refused(height.refusal);
+    }
+    let maxval = fields::number(s, height.used, 255);
+    if maxval.refusal != 0 {
+        return pixels::refused(maxval.refusal);
+    }
+    pixels::judge(s, width.value, height.value, maxval.value, maxval.used)
+}
+
+// The raster itself, as the part of the slice in which it lies; an empty part where the image is refused.
+pub fn raster(s: &[u8]) -> &[u8]
+    ensures { λ r. ⌜ partOf r ≡ rasterOf (s .entry) ⌝ }
+{
+    let numbers = header(s);
+    let start = numbers.start;
+    let used = numbers.used;
+    &s[start..used]
+}

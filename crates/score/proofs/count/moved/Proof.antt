@@ -1,0 +1,22 @@
+-- `score::count::moved` meets its contract: the test is the one of the definition.
+-- Assumes nothing.
+use borrow.Author.Needs.{needs}
+use mathlib.Core.Path.{_≡_, refl, sym, ap, _∙_}
+use native.Mathlib.Omega.{arith}
+use Rattle.score.proofs.Counts.{moved-counts, still-counts-not}
+use Rattle.score.proofs.count.moved.Statement.{statement}
+use Rattle.score.proofs.count.moved.Tie as tie
+
+apart-requires : tie.Need-apart-requires
+apart-requires c κs = search needs
+
+returns : tie.Need-returns
+returns c = let a = c .before .before .args in
+    sym (moved-counts (a .allowance) (a .x) (a .y) (omega (arith, c .before .apart .ensures)))
+
+returns-2 : tie.Need-returns-2
+returns-2 c = let a = c .before .before .args in
+    sym (still-counts-not (a .allowance) (a .x) (a .y) (omega (arith, c .before .apart .ensures)))
+
+pub moved-spec : {M : Type 1} → statement M
+moved-spec = tie.close (tie.spec apart-requires returns returns-2)

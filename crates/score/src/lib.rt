@@ -1,0 +1,34 @@
+// How much changed between two images: the number of positions whose pixels differ by more than an allowance.
+// Every call answers; what it answers is defined in specs/Calls.antt.
+ghost use mathlib.Core.Path.{_≡_};
+ghost use Rattle.score.specs.Calls.{scoreAnswer};
+
+mod count;
+mod judge;
+
+// A number, or a refusal with the number 0.
+pub struct Answer {
+    pub refusal: u8,
+    pub value: u64,
+}
+
+// The score of two images under an allowance, or `bound` where the score is larger.
+pub fn score(bound: u64, allowance: u8, first: &[u8], second: &[u8]) -> Answer
+    ensures { λ r. ⌜ r ≡ scoreAnswer bound allowance (now (first .entry)) (now (second .entry)) ⌝ }
+{
+    let one = image::header(first);
+    let two = image::header(second);
+    let refusal = judge::refusal(bound, one, two);
+    if refusal != 0 {
+        return Answer { refusal, value: 0 };
+    }
+    let from = one.start;
+    let to = one.used;
+    let start = two.start;
+    let end = two.used;
+    let number = count::changed(&first[from..to], &second[start..end], allowance);
+    Answer {
+        refusal: 0,
+        value: count::at_most(bound, number),
+    }
+}
