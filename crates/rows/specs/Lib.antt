@@ -1,0 +1,3 @@
+pub mod Decimal
+pub mod Row
+pub mod Wrote

@@ -1,0 +1,53 @@
+-- The lines that the program writes: fields parted by commas, each line ended by CR LF, as in RFC 4180.
+use Prim.Native.Nat.{ℕ}
+use mathlib.Core.Bool.{cond}
+use mathlib.Core.List.{List, [], _∷_, _++_}
+use lib.Dec.{ltb}
+use lib.ListN.{length}
+use lib.Seq.{sets}
+use Rattle.rows.specs.declared.Word.{Word}
+use Rattle.rows.specs.declared.Word.the-variants.{Early, Live, Frozen, Undecided}
+use Rattle.rows.specs.declared.Scored.{Scored}
+use Rattle.rows.specs.declared.Scored.the-variants.{First, By}
+use Rattle.rows.specs.Decimal.{decimal}
+
+-- a number and the comma behind it
+unfoldable pub fieldText : ℕ → List ℕ
+fieldText n = decimal n ++ 44 ∷ []
+
+-- the score against the frame before, which is empty for the first frame, and the comma behind it
+unfoldable pub scoreText : Scored → List ℕ
+scoreText First = 44 ∷ []
+scoreText (By score) = fieldText score
+
+-- the last field, `early`, `live`, `frozen` or `undecided`, and CR LF
+unfoldable pub wordText : Word → List ℕ
+wordText Early = 101 ∷ 97 ∷ 114 ∷ 108 ∷ 121 ∷ 13 ∷ 10 ∷ []
+wordText Live = 108 ∷ 105 ∷ 118 ∷ 101 ∷ 13 ∷ 10 ∷ []
+wordText Frozen = 102 ∷ 114 ∷ 111 ∷ 122 ∷ 101 ∷ 110 ∷ 13 ∷ 10 ∷ []
+wordText Undecided = 117 ∷ 110 ∷ 100 ∷ 101 ∷ 99 ∷ 105 ∷ 100 ∷ 101 ∷ 100 ∷ 13 ∷ 10 ∷ []
+
+-- frame number, score, kept, total, verdict
+unfoldable pub rowText : ℕ → Scored → ℕ → ℕ → Word → List ℕ
+rowText frame scored kept total word =
+    fieldText frame ++ (scoreText scored ++ (fieldText kept ++ (fieldText total ++ wordText word)))
+
+-- frame number, `refused ` with the number, three empty fields
+unfoldable pub refusedText : ℕ → ℕ → List ℕ
+refusedText frame refusal =
+    fieldText frame
+    ++ ((114 ∷ 101 ∷ 102 ∷ 117 ∷ 115 ∷ 101 ∷ 100 ∷ 32 ∷ []) ++ (decimal refusal ++ (44 ∷ 44 ∷ 44 ∷ 13 ∷ 10 ∷ [])))
+
+-- the first line: frame,score,kept,total,verdict
+unfoldable pub headText : List ℕ
+headText =
+    102 ∷ 114 ∷ 97 ∷ 109 ∷ 101 ∷ 44 ∷ 115 ∷ 99 ∷ 111 ∷ 114 ∷ 101 ∷ 44 ∷ 107 ∷ 101 ∷ 112 ∷ 116 ∷ 44 ∷ 116 ∷ 111 ∷ 116 ∷ 97 ∷ 108 ∷ 44
+    ∷ 118 ∷ 101 ∷ 114 ∷ 100 ∷ 105 ∷ 99 ∷ 116 ∷ 13 ∷ 10 ∷ []
+
+-- a line goes to the start of the lent bytes where these are at least 96, which holds any line; else nothing is written
+unfoldable pub lineInto : List ℕ → List ℕ → List ℕ
+lineInto out line = cond (ltb (length out) 96) out (sets out 0 line)
+
+-- and its length is given, or 0
+unfoldable pub lineLength : List ℕ → List ℕ → ℕ
+lineLength out line = cond (ltb (length out) 96) 0 (length line)

@@ -1,0 +1,10 @@
+-- A text written into lent bytes from a place on: nothing else changes, and the next place is behind it.
+use Prim.Native.Nat.{ℕ, _+_}
+use mathlib.Core.List.{List}
+use mathlib.Core.Path.{_≡_}
+use lib.ListN.{length}
+use lib.Seq.{sets}
+
+pub record Wrote (old : List ℕ) (place : ℕ) (text new : List ℕ) (next : ℕ) : Type 0 where
+  pub bytes : new ≡ sets old place text
+  pub moved : next ≡ place + length text
