@@ -1,0 +1,104 @@
+-- What a frame leads to, in the setting of paper 01, "The program": allowance 12, L 600, n 1,440, D 3,600, window 30, amount 3,600.
+use Prim.Native.Nat.{ℕ, _+_, min}
+use mathlib.Core.Bool.{Bool, not, cond, _&&_, _||_}
+use mathlib.Core.List.{List}
+use lib.Dec.{eqb}
+use lib.ListN.{length, take}
+use Rattle.refusals.specs.Numbers.{endsTooEarly}
+use Rattle.refusals.specs.First.{unlessRefused}
+use Rattle.book.specs.declared.Book.{Book}
+use Rattle.book.specs.declared.verdicts.Verdict.the-variants.{Live, Frozen, Undecided}
+use Rattle.book.specs.declared.verdicts.Ruling.{Ruling}
+use Rattle.book.specs.declared.verdicts.Ruling.the-variants.{Told}
+use Rattle.book.specs.declared.verdicts.Ruling.the-variants as rulings
+use Rattle.book.specs.Calls.{openAnswer, openBytes, addAnswer, addBytes, totalAnswer, verdictAnswer}
+use Rattle.image.specs.Reading.{numbersOf}
+use Rattle.score.specs.Calls.{scoreAnswer}
+use Rattle.rows.specs.declared.Scored.{Scored}
+use Rattle.rows.specs.declared.Scored.the-variants.{First, By}
+use Rattle.rows.specs.declared.Word.{Word}
+use Rattle.rows.specs.declared.Word.the-variants as words
+use Rattle.watch.specs.declared.State.{State}
+use Rattle.watch.specs.declared.Line.{Line}
+use Rattle.watch.specs.declared.Turn.{Turn}
+use Rattle.watch.specs.declared.Turn.the-variants.{Row, Refused, Ends, Wait}
+
+-- the state before the first frame, and its ring
+unfoldable pub started : List ℕ → State
+started ring = record { book = openAnswer 600 1440 3600 ring .book; frames = 0 }
+
+unfoldable pub startedRing : List ℕ → List ℕ
+startedRing ring = openBytes 600 1440 3600 ring
+
+-- the verdict's word, and `early` where it is refused
+abbrev pub wordOf : Ruling → Word
+wordOf (Told (Live figure)) = words.Live
+wordOf (Told (Frozen figure)) = words.Frozen
+wordOf (Told (Undecided figure)) = words.Undecided
+wordOf (rulings.Refused refusal) = words.Early
+
+-- the number of the next frame; a number of 64 bits ends at its largest
+abbrev pub frameAfter : ℕ → ℕ
+frameAfter frames = min 18446744073709551615 (frames + 1)
+
+-- the row that a frame's state and score lead to: the figure for the window kept, and the verdict for window 30 and amount 3,600
+unfoldable pub shownOf : State → List ℕ → Scored → ℕ → Turn
+shownOf state ring scored used =
+    let book = state .book in
+    let total = totalAnswer book ring (book .kept) in
+    unlessRefused (total .refusal)
+    (Row
+    (record {
+      state = record { book = book; frames = frameAfter (state .frames) };
+      used = used;
+      scored = scored;
+      total = total .figure;
+      word = wordOf (verdictAnswer book ring 30 3600);
+    }))
+    (Refused (total .refusal))
+
+-- an image after the first: its score against the image before goes into the book, and what the book then says is shown
+unfoldable pub countedOf : State → List ℕ → List ℕ → List ℕ → Turn
+countedOf state ring last image =
+    let score = scoreAnswer 600 12 last image in
+    let added = addAnswer (state .book) ring (score .value) in
+    unlessRefused (score .refusal)
+    (unlessRefused (added .refusal)
+    (shownOf (record { book = added .book; frames = state .frames }) (addBytes (state .book) ring (score .value)) (By (score .value))
+    (length image))
+    (Refused (added .refusal)))
+    (Refused (score .refusal))
+
+unfoldable pub countedRing : State → List ℕ → List ℕ → List ℕ → List ℕ
+countedRing state ring last image =
+    let score = scoreAnswer 600 12 last image in
+    unlessRefused (score .refusal) (addBytes (state .book) ring (score .value)) ring
+
+-- the turn of an image that is whole, or refused
+unfoldable pub decidedOf : State → List ℕ → List ℕ → List ℕ → Turn
+decidedOf state ring last rest =
+    let numbers = numbersOf rest in
+    unlessRefused (numbers .refusal)
+    (cond (eqb (state .frames) 0) (shownOf state ring First (numbers .used))
+    (countedOf state ring last (take (numbers .used) rest)))
+    (Refused (numbers .refusal))
+
+unfoldable pub decidedRing : State → List ℕ → List ℕ → List ℕ → List ℕ
+decidedRing state ring last rest =
+    let numbers = numbersOf rest in
+    unlessRefused (numbers .refusal)
+    (cond (eqb (state .frames) 0) ring (countedRing state ring last (take (numbers .used) rest)))
+    ring
+
+-- more bytes are needed: there are none yet, or they end within an image
+abbrev pub waits : List ℕ → Bool → Bool
+waits rest over = not over && (eqb (length rest) 0 || eqb (numbersOf rest .refusal) endsTooEarly)
+
+-- the turn of the bytes at hand: it waits; or the input is at its end; or the image decides
+unfoldable pub turnOf : State → List ℕ → List ℕ → List ℕ → Bool → Turn
+turnOf state ring last rest over =
+    cond (waits rest over) Wait (cond (eqb (length rest) 0) Ends (decidedOf state ring last rest))
+
+unfoldable pub turnRing : State → List ℕ → List ℕ → List ℕ → Bool → List ℕ
+turnRing state ring last rest over =
+    cond (waits rest over) ring (cond (eqb (length rest) 0) ring (decidedRing state ring last rest))
