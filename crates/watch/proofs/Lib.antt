@@ -1,2 +1,4 @@
 pub mod Deciding
 pub mod Unique
+pub mod Streaming
+pub mod Whole
