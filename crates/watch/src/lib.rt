@@ -1,7 +1,7 @@
 // What a frame leads to: the score against the frame before it goes into the book, and a row tells what the book now says.
 // A turn decides and writes nothing; what it decides and leaves is defined in specs/Turn.antt, the whole output in specs/Output.antt.
 ghost use mathlib.Core.Path.{_≡_};
-ghost use Rattle.watch.specs.Turn.{started, startedRing, turnOf, turnRing};
+ghost use Rattle.watch.specs.Turn.{frameAfter, started, startedRing, turnOf, turnRing};
 use book::Book;
 use rows::Scored;
 use rows::Word;
@@ -38,6 +38,13 @@ pub fn start(ring: &mut [u8]) -> State
     let opened = book::open(600, 1440, 3600, ring);
     let b = opened.book;
     State { book: b, frames: 0 }
+}
+
+// The number of the frame that comes after so many.
+pub fn frame_after(frames: u64) -> u64
+    ensures { λ r. ⌜ r ≡ frameAfter frames ⌝ }
+{
+    turns::one_more(frames)
 }
 
 // Decides one turn: `last` is the image of the frame before, `rest` the bytes behind it, and `over` says that no more will come.

@@ -36,7 +36,7 @@ fn word_of(ruling: Ruling) -> Word
 }
 
 // The next frame's number. (No run comes to the last one.)
-fn one_more(frames: u64) -> u64
+pub(crate) fn one_more(frames: u64) -> u64
     ensures { λ r. ⌜ r ≡ frameAfter frames ⌝ }
 {
     if frames == u64::MAX {

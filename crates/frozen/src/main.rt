@@ -1,0 +1,49 @@
+// Reads PGM images one after another from standard input and writes a row for each as soon as its last byte has come.
+// What a row says is decided by the crate watch; here are only the buffers and the two file descriptors.
+mod buffer;
+mod turn;
+
+use turn::Next;
+
+const DONE: u8 = 2;
+
+// Takes turns until the bytes at hand give no row more, and writes the rows. A turn takes a byte at least, so there are fewer turns
+// than the buffer has bytes.
+fn drain(start: Next, ring: &mut [u8], buf: &[u8], end: usize, over: bool, out: &mut [u8]) -> Next {
+    let mut next = start;
+    let mut left = buf.len();
+    while 0 < left {
+        next = turn::take(next, ring, buf, end, over, out);
+        if next.go != 0 {
+            return next;
+        }
+        left -= 1;
+    }
+    next
+}
+
+// Reads and drains until the input ends or is refused. A counter of 64 bits stands for "for ever": each round reads at least a byte.
+fn run(ring: &mut [u8], buf: &mut [u8], out: &mut [u8]) {
+    turn::head(out);
+    let mut next = turn::first(ring);
+    let mut end = 0;
+    let mut left = u64::MAX;
+    while 0 < left {
+        let moved = buffer::make_room(buf, next.from, next.at, end);
+        next = turn::at(next, moved.from, moved.at);
+        let filled = buffer::fill(buf, moved.end);
+        end = filled.end;
+        next = drain(next, ring, buf, end, filled.over, out);
+        if next.go == DONE {
+            return;
+        }
+        left -= 1;
+    }
+}
+
+fn main() {
+    let mut ring = [0u8; 30];
+    let mut buf = [0u8; 262144];
+    let mut out = [0u8; 96];
+    run(&mut ring, &mut buf, &mut out);
+}
