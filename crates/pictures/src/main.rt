@@ -289,47 +289,44 @@ fn unlike() {
     );
 }
 
-// Images of the camera's size; the buffers are longer than the images, and the bytes after a raster are allowed.
-fn large_scores() {
-    let mut first = [0u8; 24578];
-    let mut second = [0u8; 24578];
+// Two images with the header of the camera's size, each of one grey. The buffers are longer than the images: the bytes after a raster
+// are allowed.
+fn greys(name: &[u8], bound: u64, allowance: u8, first: &mut [u8], second: &mut [u8]) {
     build(
-        &mut first,
+        first,
         b"P5\n160 120\n255\n",
         run(0, 0),
         b"",
         run(128, 19200),
     );
     build(
-        &mut second,
+        second,
         b"P5\n160 120\n255\n",
         run(0, 0),
         b"",
         run(141, 19200),
     );
-    compare(b"all 13 brighter, L 600", 600, 12, &first, &second);
-    compare(b"all 13 brighter", 65535, 12, &first, &second);
-    compare(b"allowance 13", 65535, 13, &first, &second);
+    compare(name, bound, allowance, first, second);
 }
 
-fn largest_score() {
-    let mut first = [0u8; 24578];
-    let mut second = [0u8; 24578];
+// The largest raster that fits, black and white.
+fn largest(name: &[u8], bound: u64, allowance: u8, first: &mut [u8], second: &mut [u8]) {
+    build(first, b"P5", run(10, 10), b"24 1023 255\n", run(0, 24552));
     build(
-        &mut first,
-        b"P5",
-        run(10, 10),
-        b"24 1023 255\n",
-        run(0, 24552),
-    );
-    build(
-        &mut second,
+        second,
         b"P5",
         run(10, 10),
         b"24 1023 255\n",
         run(255, 24552),
     );
-    compare(b"the largest raster", 65535, 254, &first, &second);
+    compare(name, bound, allowance, first, second);
+}
+
+fn large_scores(first: &mut [u8], second: &mut [u8]) {
+    greys(b"all 13 brighter, L 600", 600, 12, first, second);
+    greys(b"all 13 brighter", 65535, 12, first, second);
+    greys(b"allowance 13", 65535, 13, first, second);
+    largest(b"the largest raster", 65535, 254, first, second);
 }
 
 fn main() {
@@ -345,6 +342,7 @@ fn main() {
     scores();
     refused_scores();
     unlike();
-    large_scores();
-    largest_score();
+    let mut first = [0u8; 24578];
+    let mut second = [0u8; 24578];
+    large_scores(&mut first, &mut second);
 }
