@@ -8,3 +8,6 @@ pub mod Chain
 pub mod Unique
 pub mod Demand1
 pub mod Promises
+pub mod Link
+pub mod Refuses
+pub mod Exact
