@@ -11,3 +11,7 @@ pub mod Promises
 pub mod Link
 pub mod Refuses
 pub mod Exact
+pub mod Prefix
+pub mod Decided
+pub mod OneReading
+pub mod RoundTrip

@@ -6,3 +6,4 @@ pub mod Reading
 pub mod Part
 pub mod Told
 pub mod Format
+pub mod Text
