@@ -4,6 +4,7 @@ use Prim.Native.Nat.{ℕ, _+_, _*_, _-_, _≤_, _<_}
 use mathlib.Core.Bool.{Bool, true, false}
 use mathlib.Core.List.{List, _∷_, _++_, append-assoc}
 use mathlib.Core.Path.{_≡_, refl, sym, ap, _∙_}
+use mathlib.Core.Logic.{_⊎_, inl, inr}
 use native.Mathlib.Omega.{arith}
 use native.Mathlib.Nat.{mul-one}
 use borrow.Author.Tests.{lt-ltb, le-ltb, ltb-true, ltb-false}
@@ -14,8 +15,8 @@ use Rattle.image.specs.declared.Numbers.{Numbers}
 use Rattle.image.specs.Seen.{limit, Seen, ahead, endOf}
 use Rattle.image.specs.Step.{Step, stopped, found, andThen}
 use Rattle.image.specs.Fields.{magic, number}
-use Rattle.image.specs.Pixels.{rasterBytes, pixelAt, largest}
-use Rattle.image.specs.Reading.{pixelBytes, refusedWith, rasterFaults, withRaster, numbersOf}
+use Rattle.image.specs.Pixels.{pixelBytes, rasterBytes, pixelAt, largest}
+use Rattle.image.specs.Reading.{refusedWith, rasterFaults, withRaster, numbersOf}
 use Rattle.image.proofs.Forms.{Field, number-found}
 use Rattle.image.proofs.Tags.{ahead-within}
 
@@ -30,9 +31,6 @@ field-bounds s used end top {v} {u} {rest} e =
 
 -- the raster's faults, each with what it leads to
 module _ (per : ℕ) (s : List ℕ) (width height maxval start : ℕ) where
-  bright : Bool
-  bright = ltb maxval (largest (pixelAt per (take (rasterBytes per width height) (drop start s))) (width * height))
-
   pub raster-over : limit < start + rasterBytes per width height → withRaster per s width height maxval start ≡ refusedWith 13
   unfolding withRaster
   raster-over h = rw (lt-ltb limit (start + rasterBytes per width height) h)
@@ -58,51 +56,67 @@ module _ (per : ℕ) (s : List ℕ) (width height maxval start : ℕ) where
       rw (le-ltb limit (start + rasterBytes per width height) h, le-ltb (length s) (start + rasterBytes per width height) k, b)
 
 -- the part from `start` up to `used` is the raster, and has one byte for each pixel
-pub part-bright : (s : List ℕ) (width height maxval start : ℕ) → start + rasterBytes 1 width height ≤ length s
-    → let part = take (start + rasterBytes 1 width height - start) (drop start s) in
-    ltb maxval (largest (pixelAt 1 part) (length part))
-    ≡ ltb maxval (largest (pixelAt 1 (take (rasterBytes 1 width height) (drop start s))) (width * height))
+pub part-bright : (s : List ℕ) (width height maxval start : ℕ) → start + rasterBytes pixelBytes width height ≤ length s
+    → let part = take (start + rasterBytes pixelBytes width height - start) (drop start s) in
+    ltb maxval (largest (pixelAt pixelBytes part) (length part))
+    ≡ ltb maxval (largest (pixelAt pixelBytes (take (rasterBytes pixelBytes width height) (drop start s))) (width * height))
 part-bright s width height maxval start h =
     let size : start + width * height * 1 - start ≡ width * height * 1 = omega arith in
     let fits : width * height * 1 ≤ length (drop start s) = rw (length-drop start s) (omega arith) in
     rw (size, length-take-le (width * height * 1) (drop start s) fits)
-    (ap (λ (n : ℕ). ltb maxval (largest (pixelAt 1 (take (width * height * 1) (drop start s))) n)) (mul-one (width * height)))
+    (ap (λ (n : ℕ). ltb maxval (largest (pixelAt pixelBytes (take (width * height * 1) (drop start s))) n)) (mul-one (width * height)))
 
--- a reading names a part that lies in the slice
+-- what every reading is: refused with all numbers 0, or taken with a raster of the size that the numbers say
+abbrev pub Shape : Numbers → Type 0
+Shape numbers =
+    (numbers ≡ refusedWith (numbers .refusal))
+    ⊎ ((numbers .refusal ≡ 0) × (numbers .used ≡ numbers .start + rasterBytes pixelBytes (numbers .width) (numbers .height)))
+
+-- and the part that it names lies in the slice
 pub record Lies (s : List ℕ) (numbers : Numbers) : Type 0 where
   pub order : numbers .start ≤ numbers .used
   pub there : numbers .used ≤ length s
   pub within : numbers .used ≤ limit
+  pub shape : Shape numbers
 
 refused-lies : (s : List ℕ) (refusal : ℕ) → Lies s (refusedWith refusal)
-refused-lies s refusal = record { order = omega arith; there = omega arith; within = omega arith }
+refused-lies s refusal = record { order = omega arith; there = omega arith; within = omega arith; shape = inl refl }
 
-raster-lies : (per : ℕ) (s : List ℕ) (width height maxval start : ℕ) → Lies s (withRaster per s width height maxval start)
-raster-lies per s width height maxval start = by₁ (ltb limit used) refl
+-- a header's answer goes by the raster's faults
+pub raster-cases : (P : Numbers → Type 0) (s : List ℕ) (width height maxval start : ℕ)
+    → (start + rasterBytes pixelBytes width height ≤ limit → length s < start + rasterBytes pixelBytes width height → P (refusedWith 14))
+    → P (refusedWith 13) → P (refusedWith 15)
+    → (start + rasterBytes pixelBytes width height ≤ limit → start + rasterBytes pixelBytes width height ≤ length s
+    → P record { refusal = 0; width = width; height = height; maxval = maxval; start = start; used = start + rasterBytes pixelBytes width height })
+    → P (withRaster pixelBytes s width height maxval start)
+raster-cases P s width height maxval start short over dim taken = by₁ (ltb limit (start + rasterBytes pixelBytes width height)) refl
   where
-    size : ℕ
-    size = rasterBytes per width height
+    by₃ : start + rasterBytes pixelBytes width height ≤ limit → start + rasterBytes pixelBytes width height ≤ length s → (b : Bool)
+        → ltb maxval (largest (pixelAt pixelBytes (take (rasterBytes pixelBytes width height) (drop start s))) (width * height)) ≡ b
+        → P (withRaster pixelBytes s width height maxval start)
+    by₃ h k true e = rw (raster-bright pixelBytes s width height maxval start h k e) dim
+    by₃ h k false e = rw (raster-taken pixelBytes s width height maxval start h k e) (taken h k)
 
-    used : ℕ
-    used = start + size
-
-    by₃ : used ≤ limit → used ≤ length s → (b : Bool)
-        → ltb maxval (largest (pixelAt per (take (rasterBytes per width height) (drop start s))) (width * height)) ≡ b
-        → Lies s (withRaster per s width height maxval start)
-    by₃ h k true e = rw (raster-bright per s width height maxval start h k e) (refused-lies s 15)
-    by₃ h k false e =
-        rw (raster-taken per s width height maxval start h k e) record { order = omega arith; there = k; within = h }
-
-    by₂ : used ≤ limit → (b : Bool) → ltb (length s) used ≡ b → Lies s (withRaster per s width height maxval start)
-    by₂ h true e = rw (raster-short per s width height maxval start h (ltb-true (length s) used e)) (refused-lies s 14)
+    by₂ : start + rasterBytes pixelBytes width height ≤ limit → (b : Bool) → ltb (length s) (start + rasterBytes pixelBytes width height) ≡ b
+        → P (withRaster pixelBytes s width height maxval start)
+    by₂ h true e =
+        let k = ltb-true (length s) (start + rasterBytes pixelBytes width height) e in
+        rw (raster-short pixelBytes s width height maxval start h k) (short h k)
     by₂ h false e =
-        by₃ h (ltb-false (length s) used e) (ltb maxval (largest (pixelAt per (take (rasterBytes per width height) (drop start s))) (width * height))) refl
+        by₃ h (ltb-false (length s) (start + rasterBytes pixelBytes width height) e)
+        (ltb maxval (largest (pixelAt pixelBytes (take (rasterBytes pixelBytes width height) (drop start s))) (width * height))) refl
 
-    by₁ : (b : Bool) → ltb limit used ≡ b → Lies s (withRaster per s width height maxval start)
-    by₁ true e = rw (raster-over per s width height maxval start (ltb-true limit used e)) (refused-lies s 13)
-    by₁ false e = by₂ (ltb-false limit used e) (ltb (length s) used) refl
+    by₁ : (b : Bool) → ltb limit (start + rasterBytes pixelBytes width height) ≡ b → P (withRaster pixelBytes s width height maxval start)
+    by₁ true e = rw (raster-over pixelBytes s width height maxval start (ltb-true limit (start + rasterBytes pixelBytes width height) e)) over
+    by₁ false e =
+        by₂ (ltb-false limit (start + rasterBytes pixelBytes width height) e) (ltb (length s) (start + rasterBytes pixelBytes width height)) refl
 
--- what holds of every refusal and of whatever the next step makes holds of the two together
+raster-lies : (s : List ℕ) (width height maxval start : ℕ) → Lies s (withRaster pixelBytes s width height maxval start)
+raster-lies s width height maxval start =
+    raster-cases (Lies s) s width height maxval start (λ _ _. refused-lies s 14) (refused-lies s 13) (refused-lies s 15)
+    (λ h k. record { order = omega arith; there = k; within = h; shape = inr (refl, refl) })
+
+-- what holds of every refusal that a step can stop at, and of whatever the next step makes, holds of the two together
 pub chained : (P : Numbers → Type 0) (step : Step) (next : ℕ → ℕ → List Seen → Numbers)
     → ((refusal : ℕ) → P (refusedWith refusal)) → ((v u : ℕ) (rest : List Seen) → P (next v u rest)) → P (andThen refusedWith step next)
 chained P (stopped refusal) next r n = r refusal
@@ -115,4 +129,4 @@ reading-lies s =
     chained (Lies s) (number (endOf s) 1024 l₁) _ (refused-lies s) λ width _ l₂.
     chained (Lies s) (number (endOf s) 1024 l₂) _ (refused-lies s) λ height _ l₃.
     chained (Lies s) (number (endOf s) 255 l₃) _ (refused-lies s) λ maxval start _.
-    raster-lies pixelBytes s width height maxval start
+    raster-lies s width height maxval start

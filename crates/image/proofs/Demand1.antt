@@ -3,6 +3,7 @@
 use Prim.Native.Nat.{ℕ, zero, suc, _+_, _-_}
 use mathlib.Core.List.{List, []}
 use mathlib.Core.Path.{_≡_, refl, sym, ap, _∙_}
+use mathlib.Core.Logic.{⊎-elim}
 use native.Mathlib.Omega.{arith}
 use denote.Ref.{RefT, ptr, now}
 use lib.Dec.{lit<}
@@ -10,42 +11,14 @@ use lib.ListN.{length}
 use Rattle.refusals.specs.First.{firstOf, unlessRefused}
 use Rattle.refusals.proofs.Laws.{Numbered, FirstThatHolds, first-holds, NoneHolds, nothing-holds}
 use Rattle.image.specs.declared.Numbers.{Numbers}
-use Rattle.image.specs.Seen.{Seen, ahead, endOf}
-use Rattle.image.specs.Fields.{magic, number}
-use Rattle.image.specs.Pixels.{rasterBytes}
-use Rattle.image.specs.Reading.{pixelBytes, refusedWith, rasterFaults, withRaster, numbersOf}
+use Rattle.image.specs.Pixels.{pixelBytes, rasterBytes}
+use Rattle.image.specs.Reading.{refusedWith, rasterFaults, withRaster, numbersOf}
 use Rattle.image.specs.Part.{Part, cut, rasterOf}
-use Rattle.image.proofs.Chain.{chained}
-
--- a reading is refused with all numbers 0, or not refused
-Plain : Numbers → Type 0
-Plain numbers = (numbers .refusal ≡ 0 → ⊥) → numbers ≡ refusedWith (numbers .refusal)
-
-refused-plain : (refusal : ℕ) → Plain (refusedWith refusal)
-unfolding Plain
-refused-plain refusal ne = refl
-
-raster-plain : (s : List ℕ) (width height maxval start : ℕ) → Plain (withRaster pixelBytes s width height maxval start)
-unfolding Plain withRaster
-raster-plain s width height maxval start = by (firstOf (rasterFaults pixelBytes s width height maxval start))
-  where
-    taken : Numbers
-    taken = record { refusal = 0; width = width; height = height; maxval = maxval; start = start; used = start + rasterBytes pixelBytes width height }
-
-    by : (n : ℕ) → (unlessRefused n taken (refusedWith n) .refusal ≡ 0 → ⊥)
-        → unlessRefused n taken (refusedWith n) ≡ refusedWith (unlessRefused n taken (refusedWith n) .refusal)
-    by zero ne = absurd (ne refl)
-    by (suc n) ne = refl
+use Rattle.image.proofs.Chain.{reading-lies}
 
 -- ledger 1.3: a refused reading has nothing but its refusal …
 pub refused-all-zero : (s : List ℕ) → (numbersOf s .refusal ≡ 0 → ⊥) → numbersOf s ≡ refusedWith (numbersOf s .refusal)
-unfolding numbersOf Plain
-refused-all-zero s =
-    chained Plain (magic (endOf s) 53 (ahead s 0)) _ refused-plain λ _ _ l₁.
-    chained Plain (number (endOf s) 1024 l₁) _ refused-plain λ width _ l₂.
-    chained Plain (number (endOf s) 1024 l₂) _ refused-plain λ height _ l₃.
-    chained Plain (number (endOf s) 255 l₃) _ refused-plain λ maxval start _.
-    raster-plain s width height maxval start
+refused-all-zero s ne = ⊎-elim (λ zeros. zeros) (λ taken. absurd (ne (taken .0))) (reading-lies s .shape)
 
 -- … and its raster is the empty part where the slice starts
 pub refused-empty : (s : RefT (List ℕ)) → (numbersOf (now s) .refusal ≡ 0 → ⊥)

@@ -15,8 +15,8 @@ use Rattle.image.specs.declared.Numbers.{Numbers}
 use Rattle.image.specs.Seen.{limit, Seen, tagged, ahead, endOf}
 use Rattle.image.specs.Step.{andThen}
 use Rattle.image.specs.Fields.{white, digit, magic, number}
-use Rattle.image.specs.Pixels.{rasterBytes, pixelAt, largest}
-use Rattle.image.specs.Reading.{pixelBytes, refusedWith, rasterFaults, withRaster, numbersOf}
+use Rattle.image.specs.Pixels.{pixelBytes, rasterBytes, pixelAt, largest}
+use Rattle.image.specs.Reading.{refusedWith, rasterFaults, withRaster, numbersOf}
 use Rattle.image.specs.Format.{AllOf, Some, Numeral, HeaderBytes, Pgm}
 use Rattle.image.proofs.Ahead.{end-refuses}
 use Rattle.image.proofs.Largest.{largest-le, le-largest}
@@ -140,11 +140,11 @@ accepted-is-pgm s e =
     let raster-ok : withRaster pixelBytes s (a .width) (a .height) (a .maxval) (a .start) .refusal ≡ 0 =
     sym (ap (λ (n : Numbers). n .refusal) (a .numbers-are)) ∙ e in
     let none = raster-none s (a .width) (a .height) (a .maxval) (a .start) (taken-faults s (a .width) (a .height) (a .maxval) (a .start) raster-ok) in
-    let size = rasterBytes 1 (a .width) (a .height) in
+    let size = rasterBytes pixelBytes (a .width) (a .height) in
     let within : a .start + size ≤ limit = ltb-false limit (a .start + size) (none .0) in
     let there : a .start + size ≤ length s = ltb-false (length s) (a .start + size) (none .1 .0) in
-    let dark : largest (pixelAt 1 (take size (drop (a .start) s))) (a .width * a .height) ≤ a .maxval =
-    ltb-false (a .maxval) (largest (pixelAt 1 (take size (drop (a .start) s))) (a .width * a .height)) (none .1 .1 .0) in
+    let dark : largest (pixelAt pixelBytes (take size (drop (a .start) s))) (a .width * a .height) ≤ a .maxval =
+    ltb-false (a .maxval) (largest (pixelAt pixelBytes (take size (drop (a .start) s))) (a .width * a .height)) (none .1 .1 .0) in
     let front : take limit s ≡ header ++ a .r₄ =
     a .sign .split
     ∙ ap (λ (l : List ℕ). 80 ∷ 53 ∷ t ∷ l) (w .split
@@ -182,13 +182,13 @@ accepted-is-pgm s e =
         one = m .white-last;
       };
       raster-length = length-take-le size (drop (a .start) s) fits;
-      pixels = λ i lt. omega (arith, le-largest (pixelAt 1 (take size (drop (a .start) s))) (a .width * a .height) i lt);
+      pixels = λ i lt. omega (arith, le-largest (pixelAt pixelBytes (take size (drop (a .start) s))) (a .width * a .height) i lt);
       starts = sym long;
       uses = omega (arith, long, length-take-le size (drop (a .start) s) fits);
       within = within;
     } in
     subst (PgmOf s)
-    (sym (a .numbers-are ∙ raster-taken 1 s (a .width) (a .height) (a .maxval) (a .start) within there (none .1 .1 .0))) pgm
+    (sym (a .numbers-are ∙ raster-taken pixelBytes s (a .width) (a .height) (a .maxval) (a .start) within there (none .1 .1 .0))) pgm
 
 -- a header in the bytes ahead is read field by field
 chain-read : (s : List ℕ) (t : ℕ) (b₁ d₁ : List ℕ) (x₁ : ℕ) (b₂ d₂ : List ℕ) (x₂ : ℕ) (b₃ d₃ : List ℕ) (x₃ : ℕ) (rest : List ℕ)
@@ -241,23 +241,23 @@ pgm-is-accepted s {width} {height} {maxval} {start} {used} p =
     let begins : end-of (f₁ .head) (f₁ .tail) (n .digits₁) (f₂ .head) (f₂ .tail) (n .digits₂) (f₃ .head) (f₃ .tail) (n .digits₃) (n .last) ≡ start =
     sym (whole-length (f₁ .head) (f₁ .tail) (n .digits₁) (f₂ .head) (f₂ .tail) (n .digits₂) (f₃ .head) (f₃ .tail) (n .digits₃) (n .last))
     ∙ ap length (sym header-is) ∙ sym (p .starts) in
-    let long : used ≡ start + rasterBytes 1 width height = omega (arith, p .uses, p .starts, p .raster-length) in
-    let within : start + rasterBytes 1 width height ≤ limit = omega (arith, p .within) in
-    let there : start + rasterBytes 1 width height ≤ length s =
+    let long : used ≡ start + rasterBytes pixelBytes width height = omega (arith, p .uses, p .starts, p .raster-length) in
+    let within : start + rasterBytes pixelBytes width height ≤ limit = omega (arith, p .within) in
+    let there : start + rasterBytes pixelBytes width height ≤ length s =
     omega (arith, ap length (p .split), length-append (p .header) behind, length-append (p .raster) (p .rest), p .starts, p .raster-length) in
-    let raster-is : take (rasterBytes 1 width height) (drop start s) ≡ p .raster =
-    (λ i. take (rasterBytes 1 width height) (drop start (p .split i)))
-    ∙ ap (take (rasterBytes 1 width height)) (drop-at (p .header) behind start (sym (p .starts)))
-    ∙ take-at (p .raster) (p .rest) (rasterBytes 1 width height) (p .raster-length) in
-    let dark : ltb maxval (largest (pixelAt 1 (take (rasterBytes 1 width height) (drop start s))) (width * height)) ≡ false =
-    ap (λ (l : List ℕ). ltb maxval (largest (pixelAt 1 l) (width * height))) raster-is
-    ∙ le-ltb maxval (largest (pixelAt 1 (p .raster)) (width * height)) (largest-le (pixelAt 1 (p .raster)) maxval (width * height) (p .pixels)) in
+    let raster-is : take (rasterBytes pixelBytes width height) (drop start s) ≡ p .raster =
+    (λ i. take (rasterBytes pixelBytes width height) (drop start (p .split i)))
+    ∙ ap (take (rasterBytes pixelBytes width height)) (drop-at (p .header) behind start (sym (p .starts)))
+    ∙ take-at (p .raster) (p .rest) (rasterBytes pixelBytes width height) (p .raster-length) in
+    let dark : ltb maxval (largest (pixelAt pixelBytes (take (rasterBytes pixelBytes width height) (drop start s))) (width * height)) ≡ false =
+    ap (λ (l : List ℕ). ltb maxval (largest (pixelAt pixelBytes l) (width * height))) raster-is
+    ∙ le-ltb maxval (largest (pixelAt pixelBytes (p .raster)) (width * height)) (largest-le (pixelAt pixelBytes (p .raster)) maxval (width * height) (p .pixels)) in
     chain-read s (f₁ .head) (f₁ .tail) (n .digits₁) (f₂ .head) (f₂ .tail) (n .digits₂) (f₃ .head) (f₃ .tail) (n .digits₃) (n .last)
     (take (limit - length (p .header)) behind) width height maxval
     (front ∙ ap (λ (l : List ℕ). l ++ take (limit - length (p .header)) behind) header-is)
     (f₁ .is-kind) (f₁ .all) (n .numeral₁) (f₂ .is-kind) (f₂ .all) (n .numeral₂) (f₃ .is-kind) (f₃ .all) (n .numeral₃) (n .one)
     ∙ ap (withRaster pixelBytes s width height maxval) begins
-    ∙ raster-taken 1 s width height maxval start within there dark
+    ∙ raster-taken pixelBytes s width height maxval start within there dark
     ∙ λ i. record { refusal = 0; width = width; height = height; maxval = maxval; start = start; used = sym long i }
 
 -- so the numbers of an image are settled by its bytes
@@ -279,7 +279,7 @@ pgm-parts s {width} {height} {maxval} {start} {used} p q =
     sym (drop-at (p .header) (p .raster ++ p .rest) start (sym (p .starts)))
     ∙ ap (drop start) (sym (p .split) ∙ q .split)
     ∙ drop-at (q .header) (q .raster ++ q .rest) start (sym (q .starts)) in
-    let size = rasterBytes 1 width height in (
+    let size = rasterBytes pixelBytes width height in (
       header,
       sym (take-at (p .raster) (p .rest) size (p .raster-length)) ∙ ap (take size) behind ∙ take-at (q .raster) (q .rest) size (q .raster-length),
       sym (drop-at (p .raster) (p .rest) size (p .raster-length)) ∙ ap (drop size) behind ∙ drop-at (q .raster) (q .rest) size (q .raster-length),

@@ -7,11 +7,11 @@ pub mod Tags
 pub mod Chain
 pub mod Unique
 pub mod Demand1
-pub mod Promises
 pub mod Link
 pub mod Refuses
 pub mod Exact
+pub mod OneReading
 pub mod Prefix
 pub mod Decided
-pub mod OneReading
 pub mod RoundTrip
+pub mod Promises

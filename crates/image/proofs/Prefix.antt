@@ -14,8 +14,8 @@ use Rattle.image.specs.declared.Numbers.{Numbers}
 use Rattle.image.specs.Seen.{limit, Seen, tagged, ahead, endOf}
 use Rattle.image.specs.Step.{Step, stopped, found, nextByte, andThen}
 use Rattle.image.specs.Fields.{white, digit, oneOf, afterWhite, judged, moreDigits, number, magic}
-use Rattle.image.specs.Pixels.{rasterBytes, pixelAt, largest}
-use Rattle.image.specs.Reading.{pixelBytes, refusedWith, withRaster, numbersOf}
+use Rattle.image.specs.Pixels.{pixelBytes, rasterBytes, pixelAt, largest}
+use Rattle.image.specs.Reading.{refusedWith, withRaster, numbersOf}
 use Rattle.image.proofs.Ahead.{end-over, end-short}
 use Rattle.image.proofs.Chain.{raster-over, raster-short, raster-bright, raster-taken}
 use Rattle.image.proofs.Link.{tagged-append}
@@ -123,45 +123,45 @@ chain-longer change (found v u rest) step′ next next′ h n g = ap (λ (x : St
 -- the raster of a longer slice, where the shorter one is not too short
 raster-longer : (s more : List ℕ) (width height maxval start : ℕ) → (withRaster pixelBytes s width height maxval start .refusal ≡ 14 → ⊥)
     → withRaster pixelBytes (s ++ more) width height maxval start ≡ withRaster pixelBytes s width height maxval start
-raster-longer s more width height maxval start ne = by₁ (ltb limit (start + rasterBytes 1 width height)) refl
+raster-longer s more width height maxval start ne = by₁ (ltb limit (start + rasterBytes pixelBytes width height)) refl
   where
-    same-part : start + rasterBytes 1 width height ≤ length s
-        → take (rasterBytes 1 width height) (drop start (s ++ more)) ≡ take (rasterBytes 1 width height) (drop start s)
+    same-part : start + rasterBytes pixelBytes width height ≤ length s
+        → take (rasterBytes pixelBytes width height) (drop start (s ++ more)) ≡ take (rasterBytes pixelBytes width height) (drop start s)
     same-part h =
-        let fits : rasterBytes 1 width height ≤ length (drop start s) = rw (length-drop start s) (omega arith) in
-        ap (take (rasterBytes 1 width height)) (drop-append-le start s more (omega arith))
-        ∙ take-append-le (rasterBytes 1 width height) (drop start s) more fits
+        let fits : rasterBytes pixelBytes width height ≤ length (drop start s) = rw (length-drop start s) (omega arith) in
+        ap (take (rasterBytes pixelBytes width height)) (drop-append-le start s more (omega arith))
+        ∙ take-append-le (rasterBytes pixelBytes width height) (drop start s) more fits
 
-    there : start + rasterBytes 1 width height ≤ length s → start + rasterBytes 1 width height ≤ length (s ++ more)
+    there : start + rasterBytes pixelBytes width height ≤ length s → start + rasterBytes pixelBytes width height ≤ length (s ++ more)
     there h = rw (length-append s more) (omega arith)
 
-    by₃ : start + rasterBytes 1 width height ≤ limit → start + rasterBytes 1 width height ≤ length s → (b : Bool)
-        → ltb maxval (largest (pixelAt 1 (take (rasterBytes 1 width height) (drop start s))) (width * height)) ≡ b
-        → withRaster 1 (s ++ more) width height maxval start ≡ withRaster 1 s width height maxval start
+    by₃ : start + rasterBytes pixelBytes width height ≤ limit → start + rasterBytes pixelBytes width height ≤ length s → (b : Bool)
+        → ltb maxval (largest (pixelAt pixelBytes (take (rasterBytes pixelBytes width height) (drop start s))) (width * height)) ≡ b
+        → withRaster pixelBytes (s ++ more) width height maxval start ≡ withRaster pixelBytes s width height maxval start
     by₃ h k true e =
-        raster-bright 1 (s ++ more) width height maxval start h (there k)
-        (ap (λ (l : List ℕ). ltb maxval (largest (pixelAt 1 l) (width * height))) (same-part k) ∙ e)
-        ∙ sym (raster-bright 1 s width height maxval start h k e)
+        raster-bright pixelBytes (s ++ more) width height maxval start h (there k)
+        (ap (λ (l : List ℕ). ltb maxval (largest (pixelAt pixelBytes l) (width * height))) (same-part k) ∙ e)
+        ∙ sym (raster-bright pixelBytes s width height maxval start h k e)
     by₃ h k false e =
-        raster-taken 1 (s ++ more) width height maxval start h (there k)
-        (ap (λ (l : List ℕ). ltb maxval (largest (pixelAt 1 l) (width * height))) (same-part k) ∙ e)
-        ∙ sym (raster-taken 1 s width height maxval start h k e)
+        raster-taken pixelBytes (s ++ more) width height maxval start h (there k)
+        (ap (λ (l : List ℕ). ltb maxval (largest (pixelAt pixelBytes l) (width * height))) (same-part k) ∙ e)
+        ∙ sym (raster-taken pixelBytes s width height maxval start h k e)
 
-    by₂ : start + rasterBytes 1 width height ≤ limit → (b : Bool) → ltb (length s) (start + rasterBytes 1 width height) ≡ b
-        → withRaster 1 (s ++ more) width height maxval start ≡ withRaster 1 s width height maxval start
+    by₂ : start + rasterBytes pixelBytes width height ≤ limit → (b : Bool) → ltb (length s) (start + rasterBytes pixelBytes width height) ≡ b
+        → withRaster pixelBytes (s ++ more) width height maxval start ≡ withRaster pixelBytes s width height maxval start
     by₂ h true e =
-        absurd (ne (ap (λ (n : Numbers). n .refusal) (raster-short 1 s width height maxval start h (ltb-true (length s) (start + rasterBytes 1 width height) e))))
+        absurd (ne (ap (λ (n : Numbers). n .refusal) (raster-short pixelBytes s width height maxval start h (ltb-true (length s) (start + rasterBytes pixelBytes width height) e))))
     by₂ h false e =
-        by₃ h (ltb-false (length s) (start + rasterBytes 1 width height) e)
-        (ltb maxval (largest (pixelAt 1 (take (rasterBytes 1 width height) (drop start s))) (width * height))) refl
+        by₃ h (ltb-false (length s) (start + rasterBytes pixelBytes width height) e)
+        (ltb maxval (largest (pixelAt pixelBytes (take (rasterBytes pixelBytes width height) (drop start s))) (width * height))) refl
 
-    by₁ : (b : Bool) → ltb limit (start + rasterBytes 1 width height) ≡ b
-        → withRaster 1 (s ++ more) width height maxval start ≡ withRaster 1 s width height maxval start
+    by₁ : (b : Bool) → ltb limit (start + rasterBytes pixelBytes width height) ≡ b
+        → withRaster pixelBytes (s ++ more) width height maxval start ≡ withRaster pixelBytes s width height maxval start
     by₁ true e =
-        let h = ltb-true limit (start + rasterBytes 1 width height) e in
-        raster-over 1 (s ++ more) width height maxval start h ∙ sym (raster-over 1 s width height maxval start h)
+        let h = ltb-true limit (start + rasterBytes pixelBytes width height) e in
+        raster-over pixelBytes (s ++ more) width height maxval start h ∙ sym (raster-over pixelBytes s width height maxval start h)
     by₁ false e =
-        by₂ (ltb-false limit (start + rasterBytes 1 width height) e) (ltb (length s) (start + rasterBytes 1 width height)) refl
+        by₂ (ltb-false limit (start + rasterBytes pixelBytes width height) e) (ltb (length s) (start + rasterBytes pixelBytes width height)) refl
 
 -- the reading of bytes ahead, with the slice in which the raster lies and the refusal for a missing byte
 readingWith : ℕ → List Seen → List ℕ → Numbers

@@ -1,64 +1,66 @@
--- What crates above may rely on: where an image's raster lies and how many bytes it has.
+-- What crates above may rely on, beside the definitions of specs/: the ranges of an accepted image's numbers, where its raster lies
+-- and how many bytes it has, and that an answer stays when more bytes come.
 -- Assumes nothing.
-use Prim.Native.Nat.{ℕ, zero, suc, _+_, _*_, _-_, _≤_}
+use Prim.Native.Nat.{ℕ, _+_, _*_, _-_, _≤_}
 use mathlib.Core.List.{List}
 use mathlib.Core.Path.{_≡_, refl, sym, ap, _∙_}
+use mathlib.Core.Logic.{⊎-elim}
 use native.Mathlib.Omega.{arith}
 use lib.ListN.{length, drop, length-drop}
 use lib.Seq.{length-take-le}
-use Rattle.refusals.specs.First.{firstOf, unlessRefused}
 use Rattle.image.specs.declared.Numbers.{Numbers}
-use Rattle.image.specs.Seen.{limit, Seen, ahead, endOf}
-use Rattle.image.specs.Fields.{magic, number}
-use Rattle.image.specs.Pixels.{rasterBytes}
-use Rattle.image.specs.Reading.{pixelBytes, refusedWith, rasterFaults, withRaster, numbersOf, rasterIn}
-use Rattle.image.proofs.Chain.{Lies, reading-lies, chained}
+use Rattle.image.specs.Seen.{limit}
+use Rattle.image.specs.Pixels.{pixelBytes, rasterBytes}
+use Rattle.image.specs.Reading.{numbersOf, rasterIn}
+use Rattle.image.proofs.Exact.{accepted-is-pgm}
 pub use Rattle.image.proofs.Chain.{Lies, reading-lies}
 pub use Rattle.image.proofs.Largest.{pixel-one}
+pub use Rattle.image.proofs.Demand1.{refused-all-zero}
+pub use Rattle.image.proofs.Refuses.{refusal-range, waits-short}
+pub use Rattle.image.proofs.Prefix.{prefix-law, accepted-stays}
+pub use Rattle.image.proofs.Decided.{DecidedAfter, decided}
 
--- the bytes used are those of the header and one for each pixel
-Sized : Numbers → Type 0
-Sized numbers = numbers .refusal ≡ 0 → numbers .used ≡ numbers .start + rasterBytes pixelBytes (numbers .width) (numbers .height)
+-- the numbers of an accepted image are in range
+pub record InRange (numbers : Numbers) : Type 0 where
+  pub width-low : 1 ≤ numbers .width
+  pub width-high : numbers .width ≤ 1024
+  pub height-low : 1 ≤ numbers .height
+  pub height-high : numbers .height ≤ 1024
+  pub maxval-low : 1 ≤ numbers .maxval
+  pub maxval-high : numbers .maxval ≤ 255
 
-refused-sized : (refusal : ℕ) → Sized (refusedWith refusal)
-unfolding Sized
-refused-sized refusal e = refl
+pub accepted-range : (s : List ℕ) → numbersOf s .refusal ≡ 0 → InRange (numbersOf s)
+accepted-range s e =
+    let n = accepted-is-pgm s e .numbers in
+    record {
+      width-low = n .numeral₁ .low;
+      width-high = n .numeral₁ .high;
+      height-low = n .numeral₂ .low;
+      height-high = n .numeral₂ .high;
+      maxval-low = n .numeral₃ .low;
+      maxval-high = n .numeral₃ .high;
+    }
 
-raster-sized : (s : List ℕ) (width height maxval start : ℕ) → Sized (withRaster pixelBytes s width height maxval start)
-unfolding Sized withRaster
-raster-sized s width height maxval start = by (firstOf (rasterFaults pixelBytes s width height maxval start))
-  where
-    taken : Numbers
-    taken = record { refusal = 0; width = width; height = height; maxval = maxval; start = start; used = start + rasterBytes pixelBytes width height }
-
-    by : (n : ℕ) → unlessRefused n taken (refusedWith n) .refusal ≡ 0
-        → unlessRefused n taken (refusedWith n) .used
-        ≡ unlessRefused n taken (refusedWith n) .start + rasterBytes pixelBytes (unlessRefused n taken (refusedWith n) .width) (unlessRefused n taken (refusedWith n) .height)
-    by zero e = refl
-    by (suc n) e = refl
-
+-- the bytes used are those of the header and of the raster
 pub reading-sized : (s : List ℕ) → numbersOf s .refusal ≡ 0
     → numbersOf s .used ≡ numbersOf s .start + rasterBytes pixelBytes (numbersOf s .width) (numbersOf s .height)
-unfolding numbersOf Sized
-reading-sized s =
-    chained Sized (magic (endOf s) 53 (ahead s 0)) _ refused-sized λ _ _ l₁.
-    chained Sized (number (endOf s) 1024 l₁) _ refused-sized λ width _ l₂.
-    chained Sized (number (endOf s) 1024 l₂) _ refused-sized λ height _ l₃.
-    chained Sized (number (endOf s) 255 l₃) _ refused-sized λ maxval start _.
-    raster-sized s width height maxval start
+reading-sized s e =
+    ⊎-elim
+    (λ zeros. ap (λ (n : Numbers). n .used) zeros
+    ∙ sym (ap (λ (n : Numbers). n .start + rasterBytes pixelBytes (n .width) (n .height)) zeros))
+    (λ taken. taken .1) (reading-lies s .shape)
 
--- the raster of an accepted image has one byte for each pixel, and no more than an image may have
-pub raster-length : (s : List ℕ) → numbersOf s .refusal ≡ 0 → length (rasterIn s) ≡ numbersOf s .width * numbersOf s .height
-raster-length s e =
+-- the raster lies in the slice whole …
+raster-fits : (s : List ℕ) → length (rasterIn s) ≡ numbersOf s .used - numbersOf s .start
+raster-fits s =
     let n = numbersOf s in
     let lies = reading-lies s in
-    let sized = reading-sized s e in
     let fits : n .used - n .start ≤ length (drop (n .start) s) = rw (length-drop (n .start) s) (omega (arith, lies .order, lies .there)) in
-    length-take-le (n .used - n .start) (drop (n .start) s) fits ∙ omega (arith, lies .order, sized)
+    length-take-le (n .used - n .start) (drop (n .start) s) fits
+
+-- … with one byte for each pixel, and no more bytes than an image may have
+pub raster-length : (s : List ℕ) → numbersOf s .refusal ≡ 0 → length (rasterIn s) ≡ numbersOf s .width * numbersOf s .height
+raster-length s e = raster-fits s ∙ omega (arith, reading-lies s .order, reading-sized s e)
 
 pub raster-within : (s : List ℕ) → length (rasterIn s) ≤ limit
-raster-within s =
-    let n = numbersOf s in
-    let lies = reading-lies s in
-    let fits : n .used - n .start ≤ length (drop (n .start) s) = rw (length-drop (n .start) s) (omega (arith, lies .order, lies .there)) in
-    omega (arith, length-take-le (n .used - n .start) (drop (n .start) s) fits, lies .within)
+raster-within s = omega (arith, raster-fits s, reading-lies s .within)

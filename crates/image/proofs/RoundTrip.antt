@@ -12,7 +12,7 @@ use lib.ListN.{length, length-append}
 use Rattle.image.specs.declared.Numbers.{Numbers}
 use Rattle.image.specs.Seen.{limit}
 use Rattle.image.specs.Fields.{white, digit}
-use Rattle.image.specs.Pixels.{rasterBytes, pixelAt}
+use Rattle.image.specs.Pixels.{pixelBytes, rasterBytes, pixelAt}
 use Rattle.image.specs.Reading.{numbersOf}
 use Rattle.image.specs.Format.{AllOf, Some, valueOf, Numeral, HeaderBytes, Pgm}
 use Rattle.image.specs.Text.{decimal, headerText}
@@ -95,8 +95,8 @@ text-is-header width height maxval w₁ w₂ h₁ h₂ m₁ m₂ = record {
 
 -- the round trip
 pub round-trip : (width height maxval : ℕ) → 1 ≤ width → width ≤ 1024 → 1 ≤ height → height ≤ 1024 → 1 ≤ maxval → maxval ≤ 255
-    → (raster rest : List ℕ) → length raster ≡ rasterBytes 1 width height
-    → ((position : ℕ) → position < width * height → pixelAt 1 raster position ≤ maxval)
+    → (raster rest : List ℕ) → length raster ≡ rasterBytes pixelBytes width height
+    → ((position : ℕ) → position < width * height → pixelAt pixelBytes raster position ≤ maxval)
     → length (headerText width height maxval) + length raster ≤ limit
     → numbersOf (headerText width height maxval ++ (raster ++ rest))
     ≡ record {

@@ -6,7 +6,7 @@ use mathlib.Core.Path.{_≡_}
 use lib.ListN.{length}
 use Rattle.image.specs.Seen.{limit}
 use Rattle.image.specs.Fields.{white, digit}
-use Rattle.image.specs.Pixels.{rasterBytes, pixelAt}
+use Rattle.image.specs.Pixels.{pixelBytes, rasterBytes, pixelAt}
 
 -- every byte of a run is of a kind
 abbrev pub AllOf : (ℕ → Bool) → List ℕ → Type 0
@@ -48,15 +48,15 @@ pub record HeaderBytes (width height maxval : ℕ) (bytes : List ℕ) : Type 0 w
   pub numeral₃ : Numeral 255 maxval digits₃
   pub one : white last ≡ true
 
--- a slice that starts with an image: its header, a raster of one byte a pixel, and whatever comes after them
+-- a slice that starts with an image: its header, its raster, no pixel of which is above maxval, and whatever comes after them
 pub record Pgm (s : List ℕ) (width height maxval start used : ℕ) : Type 0 where
   pub header : List ℕ
   pub raster : List ℕ
   pub rest : List ℕ
   pub split : s ≡ header ++ (raster ++ rest)
   pub numbers : HeaderBytes width height maxval header
-  pub raster-length : length raster ≡ rasterBytes 1 width height
-  pub pixels : (position : ℕ) → position < width * height → pixelAt 1 raster position ≤ maxval
+  pub raster-length : length raster ≡ rasterBytes pixelBytes width height
+  pub pixels : (position : ℕ) → position < width * height → pixelAt pixelBytes raster position ≤ maxval
   pub starts : start ≡ length header
   pub uses : used ≡ length header + length raster
   pub within : used ≤ limit

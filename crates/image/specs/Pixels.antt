@@ -3,6 +3,10 @@ use Prim.Native.Nat.{ℕ, zero, suc, _+_, _*_, max}
 use mathlib.Core.List.{List, [], _∷_}
 use lib.ListN.{take, drop}
 
+-- one byte a pixel: here alone the number is said
+abbrev pub pixelBytes : ℕ
+pixelBytes = 1
+
 -- the bytes of a raster, row by row
 abbrev pub rasterBytes : ℕ → ℕ → ℕ → ℕ
 rasterBytes per width height = width * height * per

@@ -9,11 +9,7 @@ use Rattle.image.specs.declared.Numbers.{Numbers}
 use Rattle.image.specs.Seen.{limit, ahead, endOf}
 use Rattle.image.specs.Step.{andThen}
 use Rattle.image.specs.Fields.{magic, number}
-use Rattle.image.specs.Pixels.{rasterBytes, pixelAt, largest}
-
--- one byte a pixel
-abbrev pub pixelBytes : ℕ
-pixelBytes = 1
+use Rattle.image.specs.Pixels.{pixelBytes, rasterBytes, pixelAt, largest}
 
 -- the answer of a refused reading
 abbrev pub refusedWith : ℕ → Numbers

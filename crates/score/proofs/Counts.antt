@@ -2,7 +2,7 @@
 -- Assumes nothing.
 use Prim.Native.Nat.{ℕ, zero, suc, _+_, _≤_, _<_}
 use mathlib.Core.Bool.{Bool, true, false, cond}
-use mathlib.Core.Path.{_≡_, refl}
+use mathlib.Core.Path.{_≡_, refl, ap}
 use native.Mathlib.Omega.{arith}
 use borrow.Author.Tests.{lt-ltb, le-ltb}
 use lib.Dec.{ltb}
@@ -14,16 +14,16 @@ at-most-one false = omega arith
 
 pub moved-le : (allowance x y : ℕ) → moved allowance x y ≤ 1
 unfolding moved
-moved-le allowance x y = at-most-one (ltb allowance (apart x y))
+moved-le allowance x y = search at-most-one
 
 -- pixels count from a difference of one more than the allowance on
 pub moved-counts : (allowance x y : ℕ) → allowance < apart x y → moved allowance x y ≡ 1
 unfolding moved
-moved-counts allowance x y h = rw (lt-ltb allowance (apart x y) h)
+moved-counts allowance x y h = ap (λ (b : Bool). cond b 1 0) (lt-ltb allowance _ (omega arith))
 
 pub still-counts-not : (allowance x y : ℕ) → apart x y ≤ allowance → moved allowance x y ≡ 0
 unfolding moved
-still-counts-not allowance x y h = rw (le-ltb allowance (apart x y) h)
+still-counts-not allowance x y h = ap (λ (b : Bool). cond b 1 0) (le-ltb allowance _ (omega arith))
 
 module _ (allowance : ℕ) (first second : ℕ → ℕ) where
   pub changed-none : changed allowance first second 0 ≡ 0

@@ -3,3 +3,4 @@ pub mod Refused
 pub mod Scored
 pub mod Demand1
 pub mod Unique
+pub mod Promises

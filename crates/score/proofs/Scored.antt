@@ -5,8 +5,8 @@ use mathlib.Core.List.{List}
 use mathlib.Core.Path.{_≡_, refl, sym, ap, _∙_}
 use lib.ListN.{length}
 use Rattle.refusals.proofs.Laws.{refused-keeps, taken-gives}
-use Rattle.image.specs.Pixels.{pixelAt}
-use Rattle.image.specs.Reading.{pixelBytes, numbersOf, rasterIn}
+use Rattle.image.specs.Pixels.{pixelBytes, pixelAt}
+use Rattle.image.specs.Reading.{numbersOf, rasterIn}
 use Rattle.image.proofs.Promises.{raster-length, raster-within}
 use Rattle.score.specs.declared.Answer.{Answer}
 use Rattle.score.specs.Changed.{changed}

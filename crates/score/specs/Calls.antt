@@ -6,8 +6,8 @@ use lib.Dec.{eqb}
 use Rattle.refusals.specs.Numbers.{badBound, imagesDiffer}
 use Rattle.refusals.specs.First.{Fault, _gives_, firstOf, unlessRefused, outside}
 use Rattle.image.specs.declared.Numbers.{Numbers}
-use Rattle.image.specs.Pixels.{pixelAt}
-use Rattle.image.specs.Reading.{pixelBytes, numbersOf, rasterIn}
+use Rattle.image.specs.Pixels.{pixelBytes, pixelAt}
+use Rattle.image.specs.Reading.{numbersOf, rasterIn}
 use Rattle.score.specs.declared.Answer.{Answer}
 use Rattle.score.specs.Changed.{changed}
 

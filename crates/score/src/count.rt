@@ -2,8 +2,7 @@
 ghost use mathlib.Core.Path.{_≡_};
 ghost use Prim.Native.Nat.{_≤_, min};
 ghost use lib.ListN.{length};
-ghost use Rattle.image.specs.Pixels.{pixelAt};
-ghost use Rattle.image.specs.Reading.{pixelBytes};
+ghost use Rattle.image.specs.Pixels.{pixelBytes, pixelAt};
 ghost use Rattle.score.specs.Changed.{apart, moved, changed};
 
 fn apart(x: u8, y: u8) -> u8

@@ -7,7 +7,7 @@ use native.Mathlib.Omega.{arith}
 use native.Mathlib.Nat.{mul-le-mul}
 use denote.Ref.{now}
 use lib.ListN.{length}
-use Rattle.image.specs.Reading.{pixelBytes}
+use Rattle.image.specs.Pixels.{pixelBytes}
 use Rattle.image.proofs.Chain.{raster-over, raster-short, raster-bright, raster-taken, part-bright}
 use Rattle.image.proofs.pixels.judge.Statement.{statement}
 use Rattle.image.proofs.pixels.judge.Tie as tie

@@ -6,8 +6,7 @@ use native.Mathlib.Omega.{arith}
 use native.Mathlib.Numerals.{add-one}
 use denote.Ref.{now}
 use lib.ListN.{length, getD}
-use Rattle.image.specs.Pixels.{pixelAt, largest}
-use Rattle.image.specs.Reading.{pixelBytes}
+use Rattle.image.specs.Pixels.{pixelBytes, pixelAt, largest}
 use Rattle.image.proofs.Largest.{pixel-one, largest-none, largest-more}
 use Rattle.image.proofs.pixels.largest_of.Statement.{statement}
 use Rattle.image.proofs.pixels.largest_of.Tie as tie

@@ -6,8 +6,7 @@ use native.Mathlib.Omega.{arith}
 use native.Mathlib.Numerals.{add-one}
 use denote.Ref.{now}
 use lib.ListN.{length, getD}
-use Rattle.image.specs.Pixels.{pixelAt}
-use Rattle.image.specs.Reading.{pixelBytes}
+use Rattle.image.specs.Pixels.{pixelBytes, pixelAt}
 use Rattle.image.proofs.Promises.{pixel-one}
 use Rattle.score.specs.Changed.{moved, changed}
 use Rattle.score.proofs.Counts.{moved-le, changed-none, changed-more}

@@ -1,0 +1,58 @@
+-- What crates above may rely on, beside the definitions of specs/: a score is at most L and at most the number of positions; it does not
+-- matter which image comes first; an image against itself scores 0.
+-- Assumes nothing.
+use Prim.Native.Nat.{ℕ, zero, suc, _+_, _*_, _≤_, min}
+use mathlib.Core.Bool.{false}
+use mathlib.Core.List.{List}
+use mathlib.Core.Path.{_≡_, refl, sym, ap, _∙_}
+use native.Mathlib.Omega.{arith}
+use lib.Dec.{ltb}
+use Rattle.refusals.specs.First.{unlessRefused}
+use Rattle.image.specs.Pixels.{pixelBytes, pixelAt}
+use Rattle.image.specs.Reading.{numbersOf, rasterIn}
+use Rattle.score.specs.Changed.{apart, moved, changed}
+use Rattle.score.specs.Calls.{scoreRefusal, scoreNumber, scoreAnswer}
+use Rattle.score.proofs.Counts.{changed-le, still-counts-not}
+pub use Rattle.score.proofs.Refused.{Alike, alike-known}
+pub use Rattle.score.proofs.Demand1.{refused-gives-0, refusal-first, taken-none, none-taken}
+
+unless-le : (refusal value bound : ℕ) → value ≤ bound → unlessRefused refusal value 0 ≤ bound
+unless-le zero value bound h = h
+unless-le (suc refusal) value bound h = omega arith
+
+module _ (bound allowance : ℕ) (first second : List ℕ) where
+  -- at most L: what the book asks of an item
+  pub score-le-bound : scoreAnswer bound allowance first second .value ≤ bound
+  unfolding scoreAnswer scoreNumber
+  score-le-bound =
+      unless-le (scoreRefusal bound (numbersOf first) (numbersOf second)) (scoreNumber bound allowance first second) bound (omega arith)
+
+  -- at most the number of positions
+  pub score-le-positions : scoreAnswer bound allowance first second .value ≤ numbersOf first .width * numbersOf first .height
+  unfolding scoreAnswer scoreNumber
+  score-le-positions =
+      unless-le (scoreRefusal bound (numbersOf first) (numbersOf second)) (scoreNumber bound allowance first second)
+      (numbersOf first .width * numbersOf first .height)
+      (omega (
+        arith,
+        changed-le allowance (pixelAt pixelBytes (rasterIn first)) (pixelAt pixelBytes (rasterIn second))
+            (numbersOf first .width * numbersOf first .height),
+      ))
+
+-- the count is the same the other way round
+pub changed-either-way : (allowance : ℕ) (first second : ℕ → ℕ) (count : ℕ)
+    → changed allowance first second count ≡ changed allowance second first count
+unfolding changed moved
+changed-either-way allowance first second zero = refl
+changed-either-way allowance first second (suc count) =
+    rw (changed-either-way allowance first second count, swap (first count) (second count))
+  where
+    swap : (x y : ℕ) → apart x y ≡ apart y x
+    swap x y = omega arith
+
+-- nothing changed between an image and itself
+pub changed-self : (allowance : ℕ) (pixel : ℕ → ℕ) (count : ℕ) → changed allowance pixel pixel count ≡ 0
+unfolding changed
+changed-self allowance pixel zero = refl
+changed-self allowance pixel (suc count) =
+    omega (arith, changed-self allowance pixel count, still-counts-not allowance (pixel count) (pixel count) (omega arith))
