@@ -1,6 +1,8 @@
 // Images and scores, good and bad, run in the gate: what is written is held to the file stdout beside src/.
 // A line of an image: its refusal, width, height, maxval, the byte where its raster starts and the bytes used, then the raster's
 // length with its first and last pixel. A line of a score: the refusal and the number.
+ghost use Prim.Native.Nat.{_≤_, _<_};
+ghost use lib.ListN.{length};
 
 // A byte a number of times.
 struct Repeat {
@@ -48,6 +50,42 @@ fn show(name: &[u8], s: &[u8]) {
     number(numbers.used);
     show_raster(image::raster(s));
     text(b"\n");
+}
+
+// The place of a byte from a place on, or the text's length.
+fn place(text: &[u8], from: usize, byte: u8) -> usize
+    requires { ⌜ from ≤ length (now text) ⌝ }
+    ensures { λ r. ⌜ (from ≤ r) × (r ≤ length (now (text .entry))) ⌝ }
+{
+    let mut at = from;
+    while at < text.len() {
+        if text[at] == byte {
+            return at;
+        }
+        at += 1;
+    }
+    at
+}
+
+// One of several cases: its name, `|`, its bytes, `~`. Gives the place behind it.
+fn show_case(cases: &[u8], at: usize) -> usize
+    requires { ⌜ at < length (now cases) ⌝ }
+    ensures { λ r. ⌜ at < r ⌝ }
+{
+    let bar = place(cases, at, 124);
+    let end = place(cases, bar, 126);
+    if bar < end {
+        show(&cases[at..bar], &cases[bar + 1..end]);
+    }
+    end + 1
+}
+
+// The cases of one text, which is quicker to check than a call for each.
+fn show_all(cases: &[u8]) {
+    let mut at = 0;
+    while at < cases.len() {
+        at = show_case(cases, at);
+    }
 }
 
 fn compare(name: &[u8], bound: u64, allowance: u8, first: &[u8], second: &[u8]) {
@@ -135,15 +173,18 @@ const FULL: [u8; 15] = *b"P5 2 2 255\n\xff\xff\xff\xff";
 
 // Images that are read.
 fn good_images() {
-    show(b"one pixel", b"P5 1 1 255 \x07");
-    show(b"rows", b"P5\n2 3\n255\n\x01\x02\x03\x04\x05\x06");
-    show(b"bytes behind the raster", b"P5 1 1 255 \x07P5 1 1");
-    show(b"leading zeros", b"P5 0001 02 0200 \x05\x06");
-    show(b"runs of white space", b"P5 \t\r\n 2\n\n\r1\t\t9 \t\x08");
-    show(b"CR LF: LF is a pixel", b"P5\r\n2 1\r\n255\r\nA");
-    show(b"white bytes as pixels", b"P5 3 1 255\n \n\t");
-    show(b"pixels equal to maxval", b"P5 2 1 9\n\t\t");
-    show(b"maxval 1", b"P5 2 1 1\n\x00\x01");
+    show_all(
+        b"\
+        one pixel|P5 1 1 255 \x07~\
+        rows|P5\n2 3\n255\n\x01\x02\x03\x04\x05\x06~\
+        bytes behind the raster|P5 1 1 255 \x07P5 1 1~\
+        leading zeros|P5 0001 02 0200 \x05\x06~\
+        runs of white space|P5 \t\r\n 2\n\n\r1\t\t9 \t\x08~\
+        CR LF: LF is a pixel|P5\r\n2 1\r\n255\r\nA~\
+        white bytes as pixels|P5 3 1 255\n \n\t~\
+        pixels equal to maxval|P5 2 1 9\n\t\t~\
+        maxval 1|P5 2 1 1\n\x00\x01~",
+    );
 }
 
 // Figure G: the ends of the ranges.
@@ -158,48 +199,60 @@ fn ranges() {
 
 // Figure G: the empty slice. And numbers of 0.
 fn nothing() {
-    show(b"empty slice", b"");
-    show(b"width 0", b"P5 0 2 255\n");
-    show(b"height 0", b"P5 2 0 255\n");
-    show(b"maxval 0", b"P5 2 2 0\n\x00\x00\x00\x00");
+    show_all(
+        b"\
+        empty slice|~\
+        width 0|P5 0 2 255\n~\
+        height 0|P5 2 0 255\n~\
+        maxval 0|P5 2 2 0\n\x00\x00\x00\x00~",
+    );
 }
 
 // Refusal 11.
 fn wrong_bytes() {
-    show(b"another letter", b"Q5 1 1 255 \x07");
-    show(b"a small letter", b"p5 1 1 255 \x07");
-    show(b"another kind of image", b"P6 1 1 255 \x07");
-    show(b"no white byte after P5", b"P51 1 255 \x07");
-    show(b"a comment", b"P5 #c\n1 1 255 \x07");
-    show(b"a comment after P5", b"P5#c\n1 1 255 \x07");
-    show(b"a sign before a number", b"P5 -1 1 255 \x07");
-    show(b"a letter after digits", b"P5 1x1 255 \x07");
-    show(b"a form feed", b"P5\x0c1 1 255 \x07");
-    show(b"1025x: 11 before 12", b"P5 1025x");
-    show(b"no white after maxval", b"P5 1 1 255\x07");
+    show_all(
+        b"\
+        another letter|Q5 1 1 255 \x07~\
+        a small letter|p5 1 1 255 \x07~\
+        another kind of image|P6 1 1 255 \x07~\
+        no white byte after P5|P51 1 255 \x07~\
+        a comment|P5 #c\n1 1 255 \x07~\
+        a comment after P5|P5#c\n1 1 255 \x07~\
+        a sign before a number|P5 -1 1 255 \x07~\
+        a letter after digits|P5 1x1 255 \x07~\
+        a form feed|P5\x0c1 1 255 \x07~\
+        1025x: 11 before 12|P5 1025x~\
+        no white after maxval|P5 1 1 255\x07~",
+    );
 }
 
 // Refusal 14, and what comes before it.
 fn ends() {
-    show(b"P alone", b"P");
-    show(b"P5 alone", b"P5");
-    show(b"a number without digits", b"P5 ");
-    show(b"1025 not yet judged", b"P5 1025");
-    show(b"1025 judged", b"P5 1025 ");
-    show(b"1025 x: 12 before 11", b"P5 1025 x");
-    show(b"no maxval", b"P5 1 1 ");
-    show(b"no white byte at the end", b"P5 1 1 255");
-    show(b"no pixel", b"P5 1 1 255 ");
-    show(b"one pixel short", b"P5 2 2 255\n\x01\x02\x03");
-    show(b"14 before 15", b"P5 2 2 1\n\x02\x02\x02");
-    show(b"13 before 14", b"P5 1024 1024 255\n\x01");
+    show_all(
+        b"\
+        P alone|P~\
+        P5 alone|P5~\
+        a number without digits|P5 ~\
+        1025 not yet judged|P5 1025~\
+        1025 judged|P5 1025 ~\
+        1025 x: 12 before 11|P5 1025 x~\
+        no maxval|P5 1 1 ~\
+        no white byte at the end|P5 1 1 255~\
+        no pixel|P5 1 1 255 ~\
+        one pixel short|P5 2 2 255\n\x01\x02\x03~\
+        14 before 15|P5 2 2 1\n\x02\x02\x02~\
+        13 before 14|P5 1024 1024 255\n\x01~",
+    );
 }
 
 // Refusal 15.
 fn bright() {
-    show(b"first pixel too large", b"P5 2 1 9\n\n\t");
-    show(b"last pixel too large", b"P5 2 2 254\n\x00\x01\x02\xff");
-    show(b"not behind the raster", b"P5 2 1 9\n\x01\x02\xff");
+    show_all(
+        b"\
+        first pixel too large|P5 2 1 9\n\n\t~\
+        last pixel too large|P5 2 2 254\n\x00\x01\x02\xff~\
+        not behind the raster|P5 2 1 9\n\x01\x02\xff~",
+    );
 }
 
 // The limit of 24,576 bytes: images, headers, and wrong bytes around it.
