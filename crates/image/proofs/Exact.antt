@@ -16,7 +16,7 @@ use Rattle.image.specs.Seen.{limit, Seen, tagged, ahead, endOf}
 use Rattle.image.specs.Step.{andThen}
 use Rattle.image.specs.Fields.{white, digit, magic, number}
 use Rattle.image.specs.Pixels.{pixelBytes, rasterBytes, pixelAt, largest}
-use Rattle.image.specs.Reading.{refusedWith, rasterFaults, withRaster, numbersOf}
+use Rattle.image.specs.Reading.{refusedWith, rasterFaults, withRaster, numbersOf, rasterIn}
 use Rattle.image.specs.Format.{AllOf, Some, Numeral, HeaderBytes, Pgm}
 use Rattle.image.proofs.Ahead.{end-refuses}
 use Rattle.image.proofs.Largest.{largest-le, le-largest}
@@ -284,3 +284,12 @@ pgm-parts s {width} {height} {maxval} {start} {used} p q =
       sym (take-at (p .raster) (p .rest) size (p .raster-length)) ∙ ap (take size) behind ∙ take-at (q .raster) (q .rest) size (q .raster-length),
       sym (drop-at (p .raster) (p .rest) size (p .raster-length)) ∙ ap (drop size) behind ∙ drop-at (q .raster) (q .rest) size (q .raster-length),
     )
+
+-- the raster that the reader hands back is the image's
+pub pgm-raster : (s : List ℕ) {width height maxval start used : ℕ} (p : Pgm s width height maxval start used) → rasterIn s ≡ p .raster
+pgm-raster s {width} {height} {maxval} {start} {used} p =
+    let size : used - start ≡ length (p .raster) = omega (arith, p .uses, p .starts) in
+    ap (λ (n : Numbers). take (n .used - n .start) (drop (n .start) s)) (pgm-is-accepted s p)
+    ∙ (λ i. take (size i) (drop start (p .split i)))
+    ∙ ap (take (length (p .raster))) (drop-at (p .header) (p .raster ++ p .rest) start (sym (p .starts)))
+    ∙ take-at (p .raster) (p .rest) (length (p .raster)) refl

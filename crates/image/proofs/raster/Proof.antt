@@ -20,7 +20,7 @@ header-requires : tie.Need-header-requires
 header-requires c κs = search needs
 
 sub-result : tie.Need-sub-result
-sub-result c = lies c .order
+sub-result c = omega (arith, lies c .order)
 
 part-result-start : tie.Need-part-result-start
 part-result-start c = let h = lies c in
