@@ -1,10 +1,9 @@
 -- `image::header` meets its contract: each field that is found leads on to the next, and one that is not ends the reading.
 -- Assumes nothing.
 use borrow.Author.Needs.{needs}
-use Prim.Native.Nat.{_≤_}
-use mathlib.Core.Path.{_≡_, refl, sym, ap, _∙_}
+use mathlib.Core.Path.{sym, _∙_}
 use denote.Ref.{now}
-use Rattle.image.specs.Seen.{ahead, endOf}
+use Rattle.image.specs.Seen.{endOf}
 use Rattle.image.specs.Reading.{numbersOf}
 use Rattle.image.proofs.Steps.{told-found, told-stopped}
 use Rattle.image.proofs.Chain.{field-bounds}

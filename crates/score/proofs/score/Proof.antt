@@ -1,11 +1,8 @@
 -- `score::score` meets its contract: a refusal comes with 0, and without one the two rasters have one size.
 -- Assumes nothing.
 use borrow.Author.Needs.{needs}
-use Prim.Native.Nat.{_≤_}
-use mathlib.Core.Path.{_≡_, refl, sym, ap, _∙_}
-use native.Mathlib.Omega.{arith}
+use mathlib.Core.Path.{_≡_, sym, _∙_}
 use denote.Ref.{now}
-use lib.ListN.{length}
 use Rattle.image.specs.Reading.{numbersOf}
 use Rattle.image.proofs.Promises.{Lies, reading-lies}
 use Rattle.score.specs.Calls.{scoreRefusal}

@@ -1,13 +1,12 @@
 -- `image::fields::magic` meets its contract: three bytes are taken, and each has to be of its kind.
 -- Assumes nothing.
 use borrow.Author.Needs.{needs}
-use mathlib.Core.Path.{_≡_, refl, sym, ap, _∙_}
+use mathlib.Core.Path.{sym, _∙_}
 use native.Mathlib.Omega.{arith}
 use borrow.Author.Tests.{eq-eqb, ne-eqb}
 use lib.Dec.{eqb}
 use denote.Ref.{now}
 use Rattle.image.specs.Seen.{ahead, endOf}
-use Rattle.image.specs.Told.{told}
 use Rattle.image.specs.Fields.{white, magic}
 use Rattle.image.proofs.Steps.{told-found, told-stopped, next-some, next-none, next-ended, one-none, one-found, one-wrong}
 use Rattle.image.proofs.fields.magic.Statement.{statement}

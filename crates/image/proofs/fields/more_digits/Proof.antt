@@ -1,14 +1,14 @@
 -- `image::fields::more_digits` meets its contract: what the digits ahead make of the value stays the same from turn to turn.
 -- The value stops at 65,536, which the definition cannot tell from a larger one.
 -- Assumes nothing.
-use Prim.Native.Nat.{_+_, _*_, _-_, _≤_, min}
+use Prim.Native.Nat.{_+_, _*_, _-_, _≤_}
 use mathlib.Core.Path.{_≡_, refl, sym, ap, _∙_}
 use native.Mathlib.Omega.{arith}
 use denote.Ref.{now}
 use lib.ListN.{length}
 use Rattle.image.specs.Seen.{ahead, endOf}
 use Rattle.image.specs.Told.{told}
-use Rattle.image.specs.Fields.{moreDigits, digit}
+use Rattle.image.specs.Fields.{moreDigits}
 use Rattle.image.proofs.Steps.{told-stopped, next-some, next-none, next-ended, digits-none, digits-over, digits-more, digits-wrong, saturates, told-judged}
 use Rattle.image.proofs.fields.more_digits.Statement.{statement}
 use Rattle.image.proofs.fields.more_digits.Tie as tie

@@ -1,7 +1,7 @@
 -- `image::fields::number` meets its contract: white bytes are passed over, then a digit has to be there.
 -- Assumes nothing.
 use borrow.Author.Needs.{needs}
-use mathlib.Core.Path.{_≡_, refl, sym, ap, _∙_}
+use mathlib.Core.Path.{sym, ap, _∙_}
 use native.Mathlib.Omega.{arith}
 use denote.Ref.{now}
 use Rattle.image.specs.Seen.{ahead, endOf}

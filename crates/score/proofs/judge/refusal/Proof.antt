@@ -1,8 +1,6 @@
 -- `score::judge::refusal` meets its contract: each return is reached where the faults before it do not hold.
 -- Assumes nothing.
-use mathlib.Core.Path.{_≡_, refl, sym, ap, _∙_}
-use native.Mathlib.Omega.{arith}
-use mathlib.Core.Bool.{true, false}
+use mathlib.Core.Path.{sym}
 use borrow.Author.Tests.{lt-ltb, le-ltb, eq-eqb, ne-eqb}
 use Rattle.refusals.proofs.Laws.{not-outside}
 use Rattle.score.proofs.Refused.{bound-refused, first-refused, second-refused, images-judged}
