@@ -2,6 +2,7 @@
 -- Assumes nothing.
 use mathlib.Core.Bool.{false}
 use mathlib.Core.Path.{_≡_, sym}
+use native.Mathlib.Omega.{arith}
 use borrow.Author.Tests.{lt-ltb, le-ltb, eq-eqb, ne-eqb}
 use Rattle.refusals.specs.First.{firstOf, outside}
 use Rattle.refusals.proofs.Laws.{not-outside}
@@ -12,7 +13,7 @@ use Rattle.score.proofs.judge.refusal.Tie as tie
 
 -- once the bound has passed
 in-range : (c : tie.Else2) → outside 1 65535 (c .before .before .args .bound) ≡ false
-in-range c = not-outside 1 65535 (c .before .before .args .bound) (c .before .if1 .left) (c .if2 .left)
+in-range c = not-outside 1 65535 (c .before .before .args .bound) (omega arith) (omega arith)
 
 -- and once both images have
 images : (c : tie.Else4) → let a = c .before .before .before .before .before .before .args in scoreRefusal (a .bound) (a .one) (a .two) ≡ firstOf (differFaults (a .one) (a .two))
@@ -21,11 +22,11 @@ images c = let a = c .before .before .before .before .before .before .args in
 
 returns : tie.Need-returns
 returns c = let a = c .before .args in
-    sym (bound-refused (a .bound) (a .one) (a .two) (rw (lt-ltb (a .bound) 1 (c .if1 .taken))))
+    sym (bound-refused (a .bound) (a .one) (a .two) (rw (lt-ltb (a .bound) 1 (omega arith))))
 
 returns-2 : tie.Need-returns-2
 returns-2 c = let a = c .before .before .args in
-    sym (bound-refused (a .bound) (a .one) (a .two) (rw (le-ltb (a .bound) 1 (c .before .if1 .left), lt-ltb 65535 (a .bound) (c .if2 .taken))))
+    sym (bound-refused (a .bound) (a .one) (a .two) (rw (le-ltb (a .bound) 1 (omega arith), lt-ltb 65535 (a .bound) (omega arith))))
 
 returns-3 : tie.Need-returns-3
 returns-3 c = let a = c .before .before .before .before .args in
