@@ -1,15 +1,15 @@
 -- What a reader sees ahead: one byte more, or none, and the refusal for a byte that is not there.
 -- Assumes nothing.
-use Prim.Native.Nat.{ℕ, zero, suc, _≤_, _<_, min}
+use Prim.Native.Nat.{ℕ, suc, _≤_, _<_, min}
 use mathlib.Core.Bool.{Bool, true, false, cond}
 use mathlib.Core.List.{List, [], _∷_}
-use mathlib.Core.Path.{_≡_, refl, sym, ap, _∙_}
+use mathlib.Core.Path.{_≡_}
 use native.Mathlib.Omega.{arith}
 use borrow.Author.Tests.{le-leb, lt-leb}
 use lib.Dec.{leb}
-use lib.ListN.{length, take, drop, getD, length-take, drop-of-length-le}
+use lib.ListN.{length, take, getD, length-take, drop-of-length-le}
 use lib.Seq.{drop-cons, getD-take}
-use Rattle.image.specs.Seen.{limit, Seen, tagged, ahead, endOf}
+use Rattle.image.specs.Seen.{limit, tagged, ahead, endOf}
 
 -- a byte that is there
 pub ahead-next : (s : List ℕ) (used : ℕ) → used < length s → used < limit

@@ -16,8 +16,8 @@ use Rattle.image.specs.Seen.{limit, Seen, ahead, endOf}
 use Rattle.image.specs.Step.{Step, stopped, found, andThen}
 use Rattle.image.specs.Fields.{magic, number}
 use Rattle.image.specs.Pixels.{pixelBytes, rasterBytes, pixelAt, largest}
-use Rattle.image.specs.Reading.{refusedWith, rasterFaults, withRaster, numbersOf}
-use Rattle.image.proofs.Forms.{Field, number-found}
+use Rattle.image.specs.Reading.{refusedWith, withRaster, numbersOf}
+use Rattle.image.proofs.Forms.{number-found}
 use Rattle.image.proofs.Tags.{ahead-within}
 
 -- a number that was found lies in its range, and so do the bytes used with it

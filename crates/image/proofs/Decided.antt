@@ -1,7 +1,7 @@
 -- Faults are taken in the order of the bytes: some number of bytes decides the answer. Fewer of them leave the reader waiting for more
 -- (14), and with them, or with any number more, the answer is that of the whole slice.
 -- Assumes nothing.
-use Prim.Native.Nat.{ℕ, zero, suc, _+_, _-_, _≤_, _<_}
+use Prim.Native.Nat.{ℕ, zero, suc, _≤_, _<_}
 use mathlib.Core.Bool.{Bool, true, false}
 use mathlib.Core.List.{List, _++_}
 use mathlib.Core.Path.{_≡_, refl, sym, ap, _∙_}
@@ -11,7 +11,6 @@ use borrow.Author.Tests.{leb-true, leb-false, eqb-true, eqb-false}
 use lib.Dec.{leb, eqb}
 use lib.ListN.{length, take, drop, take-append-drop}
 use lib.Seq.{take-take, take-length}
-use Rattle.image.specs.declared.Numbers.{Numbers}
 use Rattle.image.specs.Reading.{numbersOf}
 use Rattle.image.proofs.Prefix.{prefix-law}
 

@@ -1,19 +1,18 @@
 -- Demand 1 for both calls: a refused reading gives numbers 0 and the empty part at the start of the slice.
 -- Assumes nothing.
-use Prim.Native.Nat.{ℕ, zero, suc, _+_, _-_}
+use Prim.Native.Nat.{ℕ, suc, _+_, _-_}
 use mathlib.Core.List.{List, []}
-use mathlib.Core.Path.{_≡_, refl, sym, ap, _∙_}
+use mathlib.Core.Path.{_≡_, ap, _∙_}
 use mathlib.Core.Logic.{⊎-elim}
 use native.Mathlib.Omega.{arith}
 use denote.Ref.{RefT, ptr, now}
 use lib.Dec.{lit<}
-use lib.ListN.{length}
-use Rattle.refusals.specs.First.{firstOf, unlessRefused}
-use Rattle.refusals.proofs.Laws.{Numbered, FirstThatHolds, first-holds, NoneHolds, nothing-holds}
+use Rattle.refusals.specs.First.{firstOf}
+use Rattle.refusals.proofs.Laws.{FirstThatHolds, first-holds, NoneHolds, nothing-holds}
 use Rattle.image.specs.declared.Numbers.{Numbers}
-use Rattle.image.specs.Pixels.{pixelBytes, rasterBytes}
-use Rattle.image.specs.Reading.{refusedWith, rasterFaults, withRaster, numbersOf}
-use Rattle.image.specs.Part.{Part, cut, rasterOf}
+use Rattle.image.specs.Pixels.{pixelBytes}
+use Rattle.image.specs.Reading.{refusedWith, rasterFaults, numbersOf}
+use Rattle.image.specs.Part.{cut, rasterOf}
 use Rattle.image.proofs.Chain.{reading-lies}
 
 -- ledger 1.3: a refused reading has nothing but its refusal …

@@ -1,7 +1,7 @@
 -- Ledger 2.6: a slice is accepted exactly where it starts with an image as the format has it, the numbers are that image's, and no
 -- slice has two readings.
 -- Assumes nothing.
-use Prim.Native.Nat.{ℕ, zero, suc, _+_, _*_, _-_, _≤_, _<_}
+use Prim.Native.Nat.{ℕ, zero, suc, _+_, _*_, _-_, _≤_}
 use mathlib.Core.Bool.{Bool, true, false}
 use mathlib.Core.List.{List, [], _∷_, _++_, append-assoc}
 use mathlib.Core.Path.{_≡_, refl, sym, ap, _∙_, subst}
@@ -12,18 +12,18 @@ use lib.ListN.{length, take, drop, length-append, length-drop, take-append-drop}
 use lib.Seq.{take-at, drop-at, take-append-add, length-take-le}
 use Rattle.refusals.specs.First.{firstOf, unlessRefused}
 use Rattle.image.specs.declared.Numbers.{Numbers}
-use Rattle.image.specs.Seen.{limit, Seen, tagged, ahead, endOf}
+use Rattle.image.specs.Seen.{limit, Seen, ahead, endOf}
 use Rattle.image.specs.Step.{andThen}
-use Rattle.image.specs.Fields.{white, digit, magic, number}
+use Rattle.image.specs.Fields.{white, magic, number}
 use Rattle.image.specs.Pixels.{pixelBytes, rasterBytes, pixelAt, largest}
-use Rattle.image.specs.Reading.{refusedWith, rasterFaults, withRaster, numbersOf}
-use Rattle.image.specs.Format.{AllOf, Some, Numeral, HeaderBytes, Pgm}
+use Rattle.image.specs.Reading.{refusedWith, rasterFaults, withRaster, numbersOf, rasterIn}
+use Rattle.image.specs.Format.{AllOf, Some, Numeral, Pgm}
 use Rattle.image.proofs.Ahead.{end-refuses}
 use Rattle.image.proofs.Largest.{largest-le, le-largest}
 use Rattle.image.proofs.Chain.{raster-taken}
 use Rattle.image.proofs.Demand1.{raster-none}
-use Rattle.image.proofs.Link.{Numbered, Left, number-reads, number-read, Signed, magic-reads, magic-read}
-use Rattle.image.proofs.Refuses.{number-refuses, magic-refuses, FoundIn, found-in}
+use Rattle.image.proofs.Link.{Numbered, number-reads, number-read, Signed, magic-reads, magic-read}
+use Rattle.image.proofs.Refuses.{number-refuses, magic-refuses, found-in}
 
 -- the four fields of a header that was read, one after the other in the slice's bytes up to the limit
 record Accepted (s : List ℕ) : Type 0 where
@@ -284,3 +284,12 @@ pgm-parts s {width} {height} {maxval} {start} {used} p q =
       sym (take-at (p .raster) (p .rest) size (p .raster-length)) ∙ ap (take size) behind ∙ take-at (q .raster) (q .rest) size (q .raster-length),
       sym (drop-at (p .raster) (p .rest) size (p .raster-length)) ∙ ap (drop size) behind ∙ drop-at (q .raster) (q .rest) size (q .raster-length),
     )
+
+-- the raster that the reader hands back is the image's
+pub pgm-raster : (s : List ℕ) {width height maxval start used : ℕ} (p : Pgm s width height maxval start used) → rasterIn s ≡ p .raster
+pgm-raster s {width} {height} {maxval} {start} {used} p =
+    let size : used - start ≡ length (p .raster) = omega (arith, p .uses, p .starts) in
+    ap (λ (n : Numbers). take (n .used - n .start) (drop (n .start) s)) (pgm-is-accepted s p)
+    ∙ (λ i. take (size i) (drop start (p .split i)))
+    ∙ ap (take (length (p .raster))) (drop-at (p .header) (p .raster ++ p .rest) start (sym (p .starts)))
+    ∙ take-at (p .raster) (p .rest) (length (p .raster)) refl

@@ -1,21 +1,20 @@
 -- The fields of a header over the bytes ahead alone: a step finds a value exactly where the bytes have the field's form.
 -- Assumes nothing.
-use Prim.Native.Nat.{ℕ, suc, _+_, _*_, _-_, _≤_, _<_}
-use mathlib.Core.Bool.{Bool, true, false, cond, _||_}
-use mathlib.Core.List.{List, [], _∷_, _++_, map}
+use Prim.Native.Nat.{ℕ, _+_, _*_, _-_, _≤_}
+use mathlib.Core.Bool.{Bool, true, false, cond}
+use mathlib.Core.List.{List, [], _∷_, _++_}
 use mathlib.Core.Path.{_≡_, refl, sym, ap, _∙_}
 use native.Mathlib.Omega.{arith}
 use borrow.Author.Tests.{eqb-true, eq-eqb}
 use lib.Dec.{eqb}
-use lib.ListN.{length}
 use Rattle.refusals.specs.First.{outside}
 use Rattle.refusals.proofs.Laws.{in-range, not-outside}
 use Rattle.image.specs.Seen.{Seen}
-use Rattle.image.specs.Step.{Step, stopped, found, nextByte, andThen}
+use Rattle.image.specs.Step.{Step, stopped, found, andThen}
 use Rattle.image.specs.Fields.{white, digit, oneOf, afterWhite, judged, moreDigits, number, magic}
-use Rattle.image.specs.Format.{AllOf, Some, valueOf, Numeral}
+use Rattle.image.specs.Format.{AllOf, valueOf, Numeral}
 use Rattle.image.proofs.Steps.{one-found, digits-over, digits-more, number-digit}
-use Rattle.image.proofs.Runs.{digit-not-white, white-not-digit}
+use Rattle.image.proofs.Runs.{digit-not-white}
 
 -- the bytes themselves
 abbrev pub bytesOf : List Seen → List ℕ

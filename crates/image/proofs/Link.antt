@@ -1,17 +1,17 @@
 -- The header bytes that a reader sees and the bytes of the slice: what a field found over the one says of the other, both ways.
 -- Only here are the two tied together.
 -- Assumes nothing.
-use Prim.Native.Nat.{ℕ, zero, suc, _+_, _≤_}
+use Prim.Native.Nat.{ℕ, suc, _+_}
 use mathlib.Core.Bool.{true}
 use mathlib.Core.List.{List, [], _∷_, _++_}
 use mathlib.Core.Path.{_≡_, refl, sym, ap, _∙_}
 use native.Mathlib.Omega.{arith}
 use lib.ListN.{length}
 use Rattle.image.specs.Seen.{Seen, tagged}
-use Rattle.image.specs.Step.{Step, found}
-use Rattle.image.specs.Fields.{white, digit, number, magic}
-use Rattle.image.specs.Format.{AllOf, Some, Numeral}
-use Rattle.image.proofs.Forms.{bytesOf, Field, number-found, number-finds, Sign, magic-found, magic-finds}
+use Rattle.image.specs.Step.{found}
+use Rattle.image.specs.Fields.{white, number, magic}
+use Rattle.image.specs.Format.{AllOf, Numeral}
+use Rattle.image.proofs.Forms.{bytesOf, number-found, number-finds, magic-found, magic-finds}
 
 -- the bytes of a list that has been tagged are the list's
 pub bytes-tagged : (used : ℕ) (m : List ℕ) → bytesOf (tagged used m) ≡ m

@@ -1,12 +1,12 @@
 -- A header can be taken apart in one way only: every run of white bytes and every number in it is settled by the bytes.
 -- Assumes nothing.
-use Prim.Native.Nat.{ℕ, _≤_}
+use Prim.Native.Nat.{ℕ}
 use mathlib.Core.Bool.{Bool, true, false}
 use mathlib.Core.List.{List, [], _∷_, _++_}
 use mathlib.Core.Path.{_≡_, refl, sym, ap, _∙_}
 use native.Mathlib.Omega.{arith}
 use Rattle.image.specs.Fields.{white, digit}
-use Rattle.image.specs.Format.{AllOf, Some, Numeral, HeaderBytes}
+use Rattle.image.specs.Format.{AllOf, Some, HeaderBytes}
 use Rattle.image.proofs.Runs.{digit-not-white, white-not-digit}
 
 -- the list goes on with a byte that is not of the kind

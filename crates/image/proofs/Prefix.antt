@@ -12,7 +12,7 @@ use lib.Seq.{take-all, take-append-le, drop-append-le, take-append-add}
 use Rattle.refusals.specs.First.{outside}
 use Rattle.image.specs.declared.Numbers.{Numbers}
 use Rattle.image.specs.Seen.{limit, Seen, tagged, ahead, endOf}
-use Rattle.image.specs.Step.{Step, stopped, found, nextByte, andThen}
+use Rattle.image.specs.Step.{Step, stopped, found, andThen}
 use Rattle.image.specs.Fields.{white, digit, oneOf, afterWhite, judged, moreDigits, number, magic}
 use Rattle.image.specs.Pixels.{pixelBytes, rasterBytes, pixelAt, largest}
 use Rattle.image.specs.Reading.{refusedWith, withRaster, numbersOf}

@@ -4,7 +4,7 @@
 use Prim.Native.Nat.{ℕ, _+_, _*_, _-_, _≤_, _<_}
 use mathlib.Core.Bool.{Bool, true, false, cond}
 use mathlib.Core.List.{List, [], _∷_}
-use mathlib.Core.Path.{_≡_, refl, sym, ap, _∙_}
+use mathlib.Core.Path.{_≡_, refl}
 use native.Mathlib.Omega.{arith}
 use borrow.Author.Tests.{leb-true, leb-false}
 use lib.Dec.{leb, eqb}
@@ -12,7 +12,7 @@ use lib.ListN.{length}
 use Rattle.refusals.specs.First.{outside}
 use Rattle.image.specs.declared.Numbers.{Numbers}
 use Rattle.image.specs.Seen.{limit, Seen, ahead, endOf}
-use Rattle.image.specs.Step.{Step, stopped, found, nextByte, andThen}
+use Rattle.image.specs.Step.{Step, stopped, found, andThen}
 use Rattle.image.specs.Fields.{white, digit, oneOf, afterWhite, judged, moreDigits, number, magic}
 use Rattle.image.specs.Pixels.{pixelBytes, rasterBytes}
 use Rattle.image.specs.Reading.{refusedWith, numbersOf}

@@ -1,20 +1,19 @@
 -- A header written from numbers in range, with a raster behind it, is read back as those numbers.
 -- Assumes nothing.
 use Prim.Native.Nat.{ℕ, zero, suc, _+_, _*_, _-_, _/_, _%_, _^_, _≤_, _<_}
-use mathlib.Core.Bool.{Bool, true, false, cond, _&&_}
+use mathlib.Core.Bool.{Bool, true, false, cond}
 use mathlib.Core.List.{List, [], _∷_, _++_}
-use mathlib.Core.Path.{_≡_, refl, sym, ap, _∙_}
+use mathlib.Core.Path.{_≡_, refl, ap, _∙_}
 use native.Mathlib.Omega.{arith}
 use native.Mathlib.Nat.{pow-suc, div-lt-iff-lt-mul}
-use borrow.Author.Tests.{le-leb, ltb-true, ltb-false}
-use lib.Dec.{leb, ltb}
+use borrow.Author.Tests.{le-leb, ltb-true}
+use lib.Dec.{ltb}
 use lib.ListN.{length, length-append}
-use Rattle.image.specs.declared.Numbers.{Numbers}
 use Rattle.image.specs.Seen.{limit}
 use Rattle.image.specs.Fields.{white, digit}
 use Rattle.image.specs.Pixels.{pixelBytes, rasterBytes, pixelAt}
 use Rattle.image.specs.Reading.{numbersOf}
-use Rattle.image.specs.Format.{AllOf, Some, valueOf, Numeral, HeaderBytes, Pgm}
+use Rattle.image.specs.Format.{AllOf, Some, valueOf, Numeral, HeaderBytes}
 use Rattle.image.specs.Text.{decimal, headerText}
 use Rattle.image.proofs.Exact.{pgm-is-accepted}
 

@@ -1,16 +1,16 @@
 -- What the code's answers tell of the definitions' steps, and what each field of a header makes of the bytes ahead.
 -- Assumes nothing.
 use Prim.Native.Nat.{ℕ, zero, suc, _+_, _*_, _-_, _≤_, _<_, min}
-use mathlib.Core.Bool.{Bool, true, false, cond, _||_, _&&_}
+use mathlib.Core.Bool.{Bool, true, false, cond, _&&_}
 use mathlib.Core.List.{List, [], _∷_}
 use mathlib.Core.Path.{_≡_, refl, sym, ap, _∙_}
 use native.Mathlib.Omega.{arith}
 use borrow.Author.Tests.{lt-ltb, le-ltb, leb-true, leb-false, ne-eqb}
-use lib.Dec.{leb, ltb, eqb}
+use lib.Dec.{leb, eqb}
 use Rattle.refusals.specs.First.{unlessRefused, outside}
 use Rattle.image.specs.declared.bytes.Took.{Took}
 use Rattle.image.specs.Seen.{Seen, ahead}
-use Rattle.image.specs.Step.{Step, stopped, found, nextByte, andThen}
+use Rattle.image.specs.Step.{stopped, found, nextByte}
 use Rattle.image.specs.Fields.{white, digit, oneOf, afterWhite, judged, moreDigits, number}
 use Rattle.image.specs.Told.{told, judgedTook}
 

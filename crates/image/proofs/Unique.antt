@@ -2,7 +2,6 @@
 -- of bytes that are only lent to be read, none can change. Of the raster two references can be told apart only by the name that the
 -- program logic gives each loan, which no program sees: what is settled is all that one can see, the place and the bytes.
 -- Assumes nothing.
-use mathlib.Core.Path.{_≡_}
 use contract.Lifetimes.{Lfts}
 use denote.Ref.{now}
 use Rattle.refusals.specs.Settled.{Settles}

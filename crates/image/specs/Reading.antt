@@ -32,7 +32,8 @@ withRaster per s width height maxval start =
     record { refusal = 0; width = width; height = height; maxval = maxval; start = start; used = start + rasterBytes per width height }
     (refusedWith refusal)
 
--- `P5`, white space, width, white space, height, white space, maxval, one white byte, raster
+-- `P5`, white space, width, white space, height, white space, maxval, one white byte, raster; width and height are 1 to 1,024 and maxval
+-- is 1 to 255
 unfoldable pub numbersOf : List ℕ → Numbers
 numbersOf s =
     let end = endOf s in

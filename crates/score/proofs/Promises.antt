@@ -1,12 +1,10 @@
 -- What crates above may rely on, beside the definitions of specs/: a score is at most L and at most the number of positions; it does not
 -- matter which image comes first; an image against itself scores 0.
 -- Assumes nothing.
-use Prim.Native.Nat.{ℕ, zero, suc, _+_, _*_, _≤_, min}
-use mathlib.Core.Bool.{false}
+use Prim.Native.Nat.{ℕ, zero, suc, _*_, _≤_}
 use mathlib.Core.List.{List}
-use mathlib.Core.Path.{_≡_, refl, sym, ap, _∙_}
+use mathlib.Core.Path.{_≡_, refl}
 use native.Mathlib.Omega.{arith}
-use lib.Dec.{ltb}
 use Rattle.refusals.specs.First.{unlessRefused}
 use Rattle.image.specs.Pixels.{pixelBytes, pixelAt}
 use Rattle.image.specs.Reading.{numbersOf, rasterIn}

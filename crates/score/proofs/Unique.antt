@@ -1,7 +1,6 @@
 -- What the public call's statement allows is one outcome. `Post` is the statement itself, as it stands at the function in src/lib.rt;
 -- of images that are only lent to be read, no byte can change.
 -- Assumes nothing.
-use mathlib.Core.Path.{_≡_}
 use contract.Lifetimes.{Lfts}
 use denote.Ref.{now}
 use Rattle.refusals.specs.Settled.{Settles}

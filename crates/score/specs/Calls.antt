@@ -1,6 +1,6 @@
 -- The score of two images: what is refused, in order, and the number that is given.
 use Prim.Native.Nat.{ℕ, zero, suc, _*_, min}
-use mathlib.Core.Bool.{Bool, true, not}
+use mathlib.Core.Bool.{true, not}
 use mathlib.Core.List.{List, [], _∷_, _++_}
 use lib.Dec.{eqb}
 use Rattle.refusals.specs.Numbers.{badBound, imagesDiffer}

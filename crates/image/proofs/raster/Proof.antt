@@ -1,13 +1,11 @@
 -- `image::raster` meets its contract: the part starts where the header ends, and ends with the bytes used.
 -- Assumes nothing.
 use borrow.Author.Needs.{needs}
-use Prim.Native.Nat.{_-_, _≤_}
-use mathlib.Core.Path.{_≡_, refl, sym, ap, _∙_}
+use Prim.Native.Nat.{_-_}
+use mathlib.Core.Path.{ap}
 use native.Mathlib.Omega.{arith}
 use denote.Ref.{now}
-use lib.ListN.{length}
 use Rattle.image.specs.declared.Numbers.{Numbers}
-use Rattle.image.specs.Reading.{numbersOf}
 use Rattle.image.specs.Part.{cut}
 use Rattle.image.proofs.Chain.{Lies, reading-lies}
 use Rattle.image.proofs.raster.Statement.{statement}
@@ -20,7 +18,7 @@ header-requires : tie.Need-header-requires
 header-requires c κs = search needs
 
 sub-result : tie.Need-sub-result
-sub-result c = lies c .order
+sub-result c = omega (arith, lies c .order)
 
 part-result-start : tie.Need-part-result-start
 part-result-start c = let h = lies c in

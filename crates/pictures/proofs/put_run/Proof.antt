@@ -1,7 +1,7 @@
 -- `pictures::put_run` ends and keeps the buffer's length.
 -- Assumes nothing.
 use Prim.Native.Nat.{_≤_, _-_}
-use mathlib.Core.Path.{_≡_, refl, sym, ap, _∙_}
+use mathlib.Core.Path.{_≡_, refl, _∙_}
 use native.Mathlib.Omega.{arith}
 use lib.ListN.{length}
 use Rattle.pictures.proofs.put_run.Statement.{statement}

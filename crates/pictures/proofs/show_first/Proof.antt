@@ -1,7 +1,7 @@
 -- `pictures::show_first` shows a part that lies in the buffer.
 -- Assumes nothing.
 use borrow.Author.Needs.{needs}
-use mathlib.Core.Path.{_≡_, refl, sym, ap, _∙_}
+use mathlib.Core.Path.{sym}
 use denote.Ref.{now}
 use lib.Seq.{length-take-le}
 use Rattle.pictures.proofs.show_first.Statement.{statement}

@@ -1,6 +1,6 @@
 -- `image::bytes::end_of` meets its contract: the test on the length says which refusal it is.
 -- Assumes nothing.
-use mathlib.Core.Path.{_≡_, refl, sym, ap, _∙_}
+use mathlib.Core.Path.{sym}
 use native.Mathlib.Omega.{arith}
 use denote.Ref.{now}
 use Rattle.image.proofs.Ahead.{end-over, end-short}

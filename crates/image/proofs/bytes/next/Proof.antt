@@ -2,14 +2,12 @@
 -- Assumes nothing.
 use borrow.Author.Needs.{needs}
 use Prim.Native.Nat.{_+_}
-use mathlib.Core.Path.{_≡_, refl, sym, ap, _∙_}
+use mathlib.Core.Path.{refl, sym}
 use native.Mathlib.Omega.{arith}
 use native.Mathlib.Numerals.{add-one}
 use denote.Ref.{now}
 use lib.ListN.{getD}
-use Rattle.image.specs.Seen.{ahead, endOf}
-use Rattle.image.specs.Step.{nextByte}
-use Rattle.image.specs.Told.{told}
+use Rattle.image.specs.Seen.{endOf}
 use Rattle.image.proofs.Ahead.{ahead-next, ahead-none, end-refuses}
 use Rattle.image.proofs.Steps.{told-found, told-stopped}
 use Rattle.image.proofs.bytes.next.Statement.{statement}

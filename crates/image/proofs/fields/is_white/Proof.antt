@@ -1,6 +1,6 @@
 -- `image::fields::is_white` meets its contract: the tests are those of the definition.
 -- Assumes nothing.
-use mathlib.Core.Path.{_≡_, refl, sym, ap, _∙_}
+use mathlib.Core.Path.{sym}
 use borrow.Author.Tests.{eq-eqb, ne-eqb}
 use Rattle.image.specs.Fields.{white}
 use Rattle.image.proofs.Steps.{white-last}

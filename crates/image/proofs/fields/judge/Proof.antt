@@ -2,7 +2,6 @@
 -- Assumes nothing.
 use borrow.Author.Needs.{needs}
 use borrow.Author.Tests.{lt-ltb, le-ltb}
-use mathlib.Core.Path.{_≡_, refl, sym, ap, _∙_}
 use Rattle.image.specs.Told.{judgedTook}
 use Rattle.image.proofs.fields.judge.Statement.{statement}
 use Rattle.image.proofs.fields.judge.Tie as tie

@@ -1,5 +1,6 @@
 -- `image::fields::skip_white` meets its contract: what is ahead, white bytes passed over, stays the same from turn to turn.
 -- Assumes nothing.
+use mathlib.Core.List.{_∷_}
 use mathlib.Core.Path.{_≡_, refl, sym, ap, _∙_}
 use native.Mathlib.Omega.{arith}
 use denote.Ref.{now}
@@ -16,6 +17,12 @@ Inv-loop s used at₀ at = afterWhite (ahead s at) ≡ afterWhite (ahead s used)
 abbrev μ-loop : tie.MeasureT-loop
 μ-loop s used at₀ at = length (ahead s at)
 
+there : (c : tie.Else1 Inv-loop μ-loop) → let s = now (c .before .before .before .before .before .args .s) in let n = c .before .before .next .result in
+    ahead s (c .before .before .before .loop .at) ≡ record { byte = n .value; upto = n .used } ∷ ahead s (n .used)
+there c = let s = now (c .before .before .before .before .before .args .s) in
+    let n = c .before .before .next in
+    next-some s (endOf s) (ahead s (c .before .before .before .loop .at)) (n .result) (n .ensures) (c .if1 .left)
+
 loop-holds : tie.Need-loop-holds Inv-loop μ-loop
 loop-holds c = refl
 
@@ -25,28 +32,20 @@ next-requires c κs = tt
 returns : tie.Need-returns Inv-loop μ-loop
 returns c = let s = now (c .before .before .before .before .before .args .s) in
     let l = c .before .before .before .loop in
-    white-none (next-none s (endOf s) (ahead s (l .at)) (c .before .before .next .result) (c .before .before .next .ensures) (c .if1 .taken)) ∙ l .inv
+    let n = c .before .before .next in
+    white-none (next-none s (endOf s) (ahead s (l .at)) (n .result) (n .ensures) (c .if1 .taken)) ∙ l .inv
 
 is-white-requires : tie.Need-is-white-requires Inv-loop μ-loop
 is-white-requires c κs = tt
 
 loop-less : tie.Need-loop-less Inv-loop μ-loop
-loop-less c = let s = now (c .before .before .before .before .before .before .before .args .s) in
-    let l = c .before .before .before .before .before .loop in
-    let there = next-some s (endOf s) (ahead s (l .at)) (c .before .before .before .before .next .result) (c .before .before .before .before .next .ensures) (c .before .before .if1 .left) in
-    omega (arith, ap length there)
+loop-less c = omega (arith, ap length (there (c .before .before)))
 
 loop-again : tie.Need-loop-again Inv-loop μ-loop
-loop-again c = let s = now (c .before .before .before .before .before .before .before .args .s) in
-    let l = c .before .before .before .before .before .loop in
-    let there = next-some s (endOf s) (ahead s (l .at)) (c .before .before .before .before .next .result) (c .before .before .before .before .next .ensures) (c .before .before .if1 .left) in
-    white-more there (sym (c .before .is-white .ensures) ∙ c .if2 .taken) ∙ l .inv
+loop-again c = white-more (there (c .before .before)) (sym (c .before .is-white .ensures) ∙ c .if2 .taken) ∙ c .before .before .before .before .before .loop .inv
 
 returns-2 : tie.Need-returns-2 Inv-loop μ-loop
-returns-2 c = let s = now (c .before .before .before .before .before .before .before .args .s) in
-    let l = c .before .before .before .before .before .loop in
-    let there = next-some s (endOf s) (ahead s (l .at)) (c .before .before .before .before .next .result) (c .before .before .before .before .next .ensures) (c .before .before .if1 .left) in
-    white-over there (sym (c .before .is-white .ensures) ∙ c .if2 .left) ∙ l .inv
+returns-2 c = white-over (there (c .before .before)) (sym (c .before .is-white .ensures) ∙ c .if2 .left) ∙ c .before .before .before .before .before .loop .inv
 
 pub skip-white-spec : {M : Type 1} → statement M
 skip-white-spec =

@@ -1,12 +1,11 @@
 -- `image::pixels::judge` meets its contract: the tests that led to each return say which fault of the raster holds.
 -- Assumes nothing.
 use borrow.Author.Needs.{needs}
-use Prim.Native.Nat.{_+_, _*_, _≤_}
-use mathlib.Core.Path.{_≡_, refl, sym, ap, _∙_}
+use Prim.Native.Nat.{_*_, _≤_}
+use mathlib.Core.Path.{sym, _∙_}
 use native.Mathlib.Omega.{arith}
 use native.Mathlib.Nat.{mul-le-mul}
 use denote.Ref.{now}
-use lib.ListN.{length}
 use Rattle.image.specs.Pixels.{pixelBytes}
 use Rattle.image.proofs.Chain.{raster-over, raster-short, raster-bright, raster-taken, part-bright}
 use Rattle.image.proofs.pixels.judge.Statement.{statement}

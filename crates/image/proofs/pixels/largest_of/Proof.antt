@@ -1,11 +1,11 @@
 -- `image::pixels::largest_of` meets its contract: after i turns it has the largest of the first i pixels.
 -- Assumes nothing.
-use Prim.Native.Nat.{suc, _-_, _≤_, max}
-use mathlib.Core.Path.{_≡_, refl, sym, ap, _∙_}
+use Prim.Native.Nat.{_-_, _≤_}
+use mathlib.Core.Path.{_≡_, sym, ap, _∙_}
 use native.Mathlib.Omega.{arith}
 use native.Mathlib.Numerals.{add-one}
 use denote.Ref.{now}
-use lib.ListN.{length, getD}
+use lib.ListN.{length}
 use Rattle.image.specs.Pixels.{pixelBytes, pixelAt, largest}
 use Rattle.image.proofs.Largest.{pixel-one, largest-none, largest-more}
 use Rattle.image.proofs.pixels.largest_of.Statement.{statement}

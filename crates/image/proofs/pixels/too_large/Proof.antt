@@ -1,13 +1,13 @@
 -- `image::pixels::too_large` meets its contract: no byte is above 255, and below that the largest pixel decides.
 -- Assumes nothing.
 use borrow.Author.Needs.{needs}
-use Prim.Native.Nat.{_<_, _≤_}
-use mathlib.Core.Path.{_≡_, refl, sym, ap, _∙_}
+use Prim.Native.Nat.{_≤_}
+use mathlib.Core.Path.{sym, ap}
 use native.Mathlib.Omega.{arith}
 use borrow.Author.Tests.{le-ltb}
 use lib.Dec.{ltb}
 use denote.Ref.{now}
-use lib.ListN.{length, getD}
+use lib.ListN.{length}
 use Rattle.image.specs.Pixels.{pixelAt, largest}
 use Rattle.image.proofs.Largest.{pixel-one, largest-le}
 use Rattle.image.proofs.pixels.too_large.Statement.{statement}

@@ -1,11 +1,11 @@
 -- `score::count::changed` meets its contract: after i turns the count is that of the first i positions, and at most i.
 -- Assumes nothing.
-use Prim.Native.Nat.{suc, _+_, _-_, _≤_}
-use mathlib.Core.Path.{_≡_, refl, sym, ap, _∙_}
+use Prim.Native.Nat.{_-_, _≤_}
+use mathlib.Core.Path.{_≡_, sym, ap, _∙_}
 use native.Mathlib.Omega.{arith}
 use native.Mathlib.Numerals.{add-one}
 use denote.Ref.{now}
-use lib.ListN.{length, getD}
+use lib.ListN.{length}
 use Rattle.image.specs.Pixels.{pixelBytes, pixelAt}
 use Rattle.image.proofs.Promises.{pixel-one}
 use Rattle.score.specs.Changed.{moved, changed}

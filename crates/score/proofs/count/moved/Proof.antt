@@ -1,7 +1,7 @@
 -- `score::count::moved` meets its contract: the test is the one of the definition.
 -- Assumes nothing.
 use borrow.Author.Needs.{needs}
-use mathlib.Core.Path.{_≡_, refl, sym, ap, _∙_}
+use mathlib.Core.Path.{sym}
 use native.Mathlib.Omega.{arith}
 use Rattle.score.proofs.Counts.{moved-counts, still-counts-not}
 use Rattle.score.proofs.count.moved.Statement.{statement}
