@@ -10,8 +10,9 @@ use Rattle.refusals.specs.Settled.{Settles}
 use Rattle.refusals.proofs.Laws.{settled}
 use Rattle.watch.specs.declared.State.{State}
 use Rattle.watch.specs.declared.Turn.{Turn}
-use Rattle.watch.specs.Turn.{started, startedRing, turnOf, turnRing}
+use Rattle.watch.specs.Turn.{frameAfter, started, startedRing, turnOf, turnRing}
 use Rattle.watch.proofs.start.Reads as start-reads
+use Rattle.watch.proofs.frame_after.Reads as frame-after-reads
 use Rattle.watch.proofs.decide.Reads as decide-reads
 
 pub start-settled : (κs : Lfts 1) → Settles {Seen = State × List ℕ} (start-reads.Post κs) (λ r e. (r, now (e .0)))
@@ -19,6 +20,9 @@ start-settled κs =
     settled {Seen = State × List ℕ} (start-reads.Post κs) (λ r e. (r, now (e .0)))
     (λ a. (started (now (a .0)), startedRing (now (a .0))))
     (λ a r e p i. (p .0 i, p .1 i))
+
+pub frame-after-settled : (κs : Lfts 0) → Settles {Seen = ℕ} (frame-after-reads.Post κs) (λ r e. r)
+frame-after-settled κs = settled {Seen = ℕ} (frame-after-reads.Post κs) (λ r e. r) (λ a. frameAfter (a .0)) (λ a r e p. p)
 
 pub decide-settled : (κs : Lfts 3) → Settles {Seen = Turn × List ℕ} (decide-reads.Post κs) (λ r e. (r, now (e .1 .0)))
 decide-settled κs =
