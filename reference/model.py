@@ -1,0 +1,421 @@
+"""The calls of paper 01, in Python's whole numbers, written from the papers alone.
+
+A sentence in quotes is paper 01's. Every call gives what its answer line holds, first the refusal number, 0 for none;
+bytes and records that a call may change are given as they are afterwards. Nothing here is fast, and nothing is shared with the
+proved code: where the two differ, the papers decide which is wrong.
+"""
+
+from collections import namedtuple
+
+LARGEST_BOUND = 65535
+LARGEST_LENGTH = 4096
+LARGEST_WIDTH = 16
+LARGEST_SLOTS = 4096
+IMAGE_LIMIT = 24576
+
+Record = namedtuple("Record", "L n D R p kept head")
+NO_RECORD = Record(0, 0, 0, 0, 0, 0, 0)
+
+
+def ceil_div(a, b):
+    return -(-a // b)
+
+
+# --- the ring ---------------------------------------------------------------------------------------------------------
+
+
+def ring_bytes(width, slots):
+    """"ring bytes B = ceil(s·b/8)"."""
+    return ceil_div(slots * width, 8)
+
+
+def bits_of(ring):
+    """The digits, "counted from the top bit of byte 0 as in a PBM row"."""
+    return "".join(format(byte, "08b") for byte in ring)
+
+
+def bytes_of(bits):
+    return bytes(int(bits[i : i + 8], 2) for i in range(0, len(bits), 8))
+
+
+def field(width, bits, slot):
+    """"Slot k occupies bits k·b to k·b + b − 1 .. the field's highest digit first"."""
+    return int(bits[slot * width : slot * width + width], 2)
+
+
+def newest_fields(width, slots, ring, next_slot, j):
+    """What stands in the j newest slots before the next one, the newest first ("the slot before 0 is the last one")."""
+    bits = bits_of(ring)
+    return [field(width, bits, (next_slot - 1 - k) % slots) for k in range(j)]
+
+
+def with_field(width, ring, slot, value):
+    """The ring with one slot written, every other bit as it was."""
+    bits = bits_of(ring)
+    digits = format(value, "b").zfill(width)
+    return bytes_of(bits[: slot * width] + digits + bits[slot * width + width :])
+
+
+def cleared(ring, count):
+    """The first B bytes 0 (the bits after the last slot too), "bytes from B on are never touched"."""
+    return bytes(count) + ring[count:]
+
+
+def ring_refusal(width, slots, ring, bad=False):
+    """"The ring's own calls: 10, 4"; bad is what else a call has under 10."""
+    if not 1 <= width <= LARGEST_WIDTH or not 1 <= slots <= LARGEST_SLOTS or bad:
+        return 10
+    if len(ring) < ring_bytes(width, slots):
+        return 4
+    return 0
+
+
+def ring_clear(width, slots, ring):
+    refusal = ring_refusal(width, slots, ring)
+    if refusal:
+        return refusal, ring
+    return 0, cleared(ring, ring_bytes(width, slots))
+
+
+def ring_read(width, slots, ring, slot):
+    """"a slot number not below the slots" is 10."""
+    refusal = ring_refusal(width, slots, ring, slot >= slots)
+    return (refusal, 0) if refusal else (0, field(width, bits_of(ring), slot))
+
+
+def too_large(width, value):
+    """"a value too large for the width"; a width out of its range is 10 by itself, and no power of it is taken."""
+    return width <= LARGEST_WIDTH and value >= 2**width
+
+
+def ring_write(width, slots, ring, slot, value):
+    refusal = ring_refusal(width, slots, ring, slot >= slots or too_large(width, value))
+    return (refusal, ring) if refusal else (0, with_field(width, ring, slot, value))
+
+
+def ring_sum(width, slots, ring, next_slot, j):
+    """"more newest slots asked for than there are" is 10, and so is a next slot that is none."""
+    refusal = ring_refusal(width, slots, ring, next_slot >= slots or j > slots)
+    if refusal:
+        return refusal, 0
+    return 0, sum(newest_fields(width, slots, ring, next_slot, j))
+
+
+# --- the book ---------------------------------------------------------------------------------------------------------
+
+
+def block_length(L, D):
+    """"block length c = the larger of 1 and floor(D/L)"."""
+    return max(1, D // L)
+
+
+def slot_count(L, n, D):
+    """"slots s = ceil(n/c)"."""
+    return ceil_div(n, block_length(L, D))
+
+
+def field_width(L, D):
+    """"largest quotient z = ceil(c·L/D); field width b = how many binary digits z has"."""
+    return ceil_div(block_length(L, D) * L, D).bit_length()
+
+
+def book_bytes(L, n, D):
+    return ring_bytes(field_width(L, D), slot_count(L, n, D))
+
+
+def numbers_refusal(L, n, D):
+    """1, 2, 3: "a bound L (1 to 65,535), a length n (1 to 4,096) and a tolerance D (1 to n·L)"."""
+    if not 1 <= L <= LARGEST_BOUND:
+        return 1
+    if not 1 <= n <= LARGEST_LENGTH:
+        return 2
+    if not 1 <= D <= n * L:
+        return 3
+    return 0
+
+
+def is_book(r):
+    """Not 8: "L, n or D out of range, kept above n or below p, p ≥ c, head ≥ s, or R above D − 1 + p·L"."""
+    if numbers_refusal(r.L, r.n, r.D):
+        return False
+    return (
+        r.p <= r.kept <= r.n
+        and r.p < block_length(r.L, r.D)
+        and r.head < slot_count(r.L, r.n, r.D)
+        and r.R <= r.D - 1 + r.p * r.L
+    )
+
+
+def book_refusal(r, ring):
+    """8, then 4: how every call on a record begins."""
+    if not is_book(r):
+        return 8
+    if len(ring) < book_bytes(r.L, r.n, r.D):
+        return 4
+    return 0
+
+
+def open_book(L, n, D, ring):
+    """"Opening: 1, 2, 3, 4, and the record handed back is all zeros"."""
+    refusal = numbers_refusal(L, n, D)
+    if not refusal and len(ring) < book_bytes(L, n, D):
+        refusal = 4
+    if refusal:
+        return refusal, NO_RECORD, ring
+    return 0, Record(L, n, D, 0, 0, 0, 0), cleared(ring, book_bytes(L, n, D))
+
+
+def block_closed(r, ring):
+    """"q = floor(R/D) goes into slot head, R becomes R − q·D, p becomes 0, head moves on by one, from s − 1 to 0"."""
+    q = r.R // r.D
+    ring = with_field(field_width(r.L, r.D), ring, r.head, q)
+    head = (r.head + 1) % slot_count(r.L, r.n, r.D)
+    return r._replace(R=r.R - q * r.D, p=0, head=head), ring
+
+
+def add(r, ring, x):
+    """"Adding: 8, 4, 7"; "R grows by x, p by 1, kept by 1 unless it is n"."""
+    refusal = book_refusal(r, ring)
+    if not refusal and x > r.L:
+        refusal = 7
+    if refusal:
+        return refusal, r, ring
+    r = r._replace(R=r.R + x, p=r.p + 1, kept=min(r.n, r.kept + 1))
+    if r.p == block_length(r.L, r.D):
+        r, ring = block_closed(r, ring)
+    return 0, r, ring
+
+
+def fields_of(r, ring):
+    """The book's fields, the newest first."""
+    s = slot_count(r.L, r.n, r.D)
+    return newest_fields(field_width(r.L, r.D), s, ring, r.head, s)
+
+
+def figure(r, fields, i):
+    """"R + D·(sum of the j newest slots) − (D − 1) − e·L·g, or 0 if that is negative"."""
+    c = block_length(r.L, r.D)
+    if i <= r.p:
+        j, e, g = 0, r.p - i, r.R // r.D
+    else:
+        j = ceil_div(i - r.p, c)
+        e = j * c - (i - r.p)
+        g = fields[j - 1]
+    return max(0, r.R + r.D * sum(fields[:j]) - (r.D - 1) - e * r.L * g)
+
+
+def total(r, ring, i):
+    """"Total: 8, 4, 5; a window of 0 answers 0"."""
+    refusal = book_refusal(r, ring)
+    if not refusal and i > r.kept:
+        refusal = 5
+    if refusal:
+        return refusal, 0
+    return 0, 0 if i == 0 else figure(r, fields_of(r, ring), i)
+
+
+def far(r, ring, v):
+    """"How far back: 8, 4, 6, 9"; "the smallest i from 1 to kept whose figure is at least v"."""
+    refusal = book_refusal(r, ring)
+    if not refusal and v == 0:
+        refusal = 6
+    if refusal:
+        return refusal, 0
+    fields = fields_of(r, ring)
+    for i in range(1, r.kept + 1):
+        if figure(r, fields, i) >= v:
+            return 0, i
+    return 9, 0
+
+
+def verdict(r, ring, w, v):
+    """"Verdict: 8, 4, 6, 5"; "live if f ≥ v; frozen if f + D − 1 < v; otherwise undecided"."""
+    refusal = book_refusal(r, ring)
+    if not refusal and (v == 0 or w == 0):
+        refusal = 6
+    if not refusal and w > r.kept:
+        refusal = 5
+    if refusal:
+        return refusal, "none", 0
+    f = figure(r, fields_of(r, ring), w)
+    if f >= v:
+        return 0, "live", f
+    return 0, "frozen" if f + r.D - 1 < v else "undecided", f
+
+
+# --- images -----------------------------------------------------------------------------------------------------------
+
+WHITE = b" \t\r\n"
+DIGITS = b"0123456789"
+NO_IMAGE = (0, 0, 0, 0, 0, 0)
+
+
+class Refused(Exception):
+    """The first fault of an image, with its number."""
+
+
+class Header:
+    """"header bytes are taken in order and the first fault decides"."""
+
+    def __init__(self, data):
+        self.data = data
+        self.at = 0
+
+    def need(self, allowed):
+        """The next byte: "needing a 24,577th byte is 13, else one beyond the slice is 14, else a wrong byte is 11"."""
+        if self.at >= IMAGE_LIMIT:
+            raise Refused(13)
+        if self.at >= len(self.data):
+            raise Refused(14)
+        byte = self.data[self.at]
+        if byte not in allowed:
+            raise Refused(11)
+        self.at += 1
+        return byte
+
+    def white_then_digit(self):
+        """"whitespace .. one or more", and the first digit of the number that has to follow."""
+        byte = self.need(WHITE)
+        while byte in WHITE:
+            byte = self.need(WHITE + DIGITS)
+        return byte
+
+    def number(self, first, top):
+        """The number and ONE white byte; "a number is judged (12) once the whitespace after it is read"."""
+        value, byte = 0, first
+        while byte in DIGITS:
+            value = value * 10 + byte - DIGITS[0]
+            byte = self.need(WHITE + DIGITS)
+        if not 1 <= value <= top:
+            raise Refused(12)
+        return value
+
+    def next_number(self, top):
+        """The further white bytes, whose first the number before took, and the number."""
+        byte = self.need(WHITE + DIGITS)
+        while byte in WHITE:
+            byte = self.need(WHITE + DIGITS)
+        return self.number(byte, top)
+
+
+def read_image(data):
+    """width, height, maxval, bytes used, where the raster starts, its length; Refused if it is none."""
+    header = Header(data)
+    header.need(b"P")
+    header.need(b"5")
+    width = header.number(header.white_then_digit(), 1024)
+    height = header.next_number(1024)
+    maxval = header.next_number(255)
+    used = header.at + width * height
+    if used > IMAGE_LIMIT:
+        raise Refused(13)
+    if used > len(data):
+        raise Refused(14)
+    if max(data[header.at : used]) > maxval:
+        raise Refused(15)
+    return width, height, maxval, used, header.at, width * height
+
+
+def pgm(data):
+    """"A refused read gives numbers 0 and an empty part"."""
+    try:
+        return (0,) + read_image(data)
+    except Refused as fault:
+        return (fault.args[0],) + NO_IMAGE
+
+
+def changed(first, second, allowance):
+    """"the number of positions whose pixels differ by more than a"."""
+    return sum(abs(x - y) > allowance for x, y in zip(first, second))
+
+
+def score(L, a, first, second):
+    """"Score: 1, the first image's, the second's, 16"; "or L if that number is larger"."""
+    if not 1 <= L <= LARGEST_BOUND:
+        return 1, 0
+    for image in (first, second):
+        refusal = pgm(image)[0]
+        if refusal:
+            return refusal, 0
+    one, two = read_image(first), read_image(second)
+    if one[:3] != two[:3]:
+        return 16, 0
+    return 0, min(L, changed(first[one[4] : one[3]], second[two[4] : two[3]], a))
+
+
+# --- lines ------------------------------------------------------------------------------------------------------------
+
+MOST_BYTES = 32768
+
+
+class Unreadable(Exception):
+    """A line that no call can be read from."""
+
+
+def take_number(text):
+    """Digits alone, leading zeros allowed, below 2^64."""
+    if not text or any(c not in "0123456789" for c in text) or int(text) >= 2**64:
+        raise Unreadable
+    return int(text)
+
+
+def take_byte(text):
+    """A score's allowance is "0 to 255, a byte": no refusal is for another, so the line cannot be read."""
+    value = take_number(text)
+    if value > 255:
+        raise Unreadable
+    return value
+
+
+def take_bytes(text):
+    """Lower-case hex, two digits a byte, `-` for none; more than 32,768 bytes are not taken."""
+    if text == "-":
+        return b""
+    if not text or len(text) % 2 or len(text) > 2 * MOST_BYTES or any(c not in "0123456789abcdef" for c in text):
+        raise Unreadable
+    return bytes.fromhex(text)
+
+
+def take_record(text):
+    numbers = [take_number(part) for part in text.split(",")]
+    if len(numbers) != len(NO_RECORD):
+        raise Unreadable
+    return Record(*numbers)
+
+
+def show(value):
+    if isinstance(value, bytes):
+        return value.hex() or "-"
+    if isinstance(value, Record):
+        return ",".join(str(number) for number in value)
+    return str(value)
+
+
+N, Y, A, R = take_number, take_bytes, take_byte, take_record
+
+CALLS = {
+    "ring_clear": (ring_clear, (N, N, Y)),
+    "ring_read": (ring_read, (N, N, Y, N)),
+    "ring_write": (ring_write, (N, N, Y, N, N)),
+    "ring_sum": (ring_sum, (N, N, Y, N, N)),
+    "open": (open_book, (N, N, N, Y)),
+    "add": (add, (R, Y, N)),
+    "total": (total, (R, Y, N)),
+    "far": (far, (R, Y, N)),
+    "verdict": (verdict, (R, Y, N, N)),
+    "pgm": (pgm, (Y,)),
+    "score": (score, (N, A, Y, Y)),
+}
+
+
+def answer(line):
+    """The answer to one line, both without the line feed."""
+    fields = line.split(" ")
+    call, kinds = CALLS.get(fields[0], (None, ()))
+    if call is None or len(fields) != 1 + len(kinds):
+        return "?"
+    try:
+        arguments = [kind(text) for kind, text in zip(kinds, fields[1:])]
+    except Unreadable:
+        return "?"
+    return " ".join(show(value) for value in call(*arguments))
