@@ -24,8 +24,8 @@ fn drain(start: Next, ring: &mut [u8], buf: &[u8], end: usize, over: bool, out: 
 
 // Reads and drains until the input ends or is refused. A counter of 64 bits stands for "for ever": each round reads at least a byte.
 fn run(ring: &mut [u8], buf: &mut [u8], out: &mut [u8]) {
-    turn::head(out);
-    let mut next = turn::first(ring);
+    let mut next = turn::first(ring, out);
+    turn::write(out, next.full);
     let mut end = 0;
     let mut left = u64::MAX;
     while 0 < left {
@@ -34,6 +34,7 @@ fn run(ring: &mut [u8], buf: &mut [u8], out: &mut [u8]) {
         let filled = buffer::fill(buf, moved.end);
         end = filled.end;
         next = drain(next, ring, buf, end, filled.over, out);
+        turn::write(out, next.full);
         if next.go == DONE {
             return;
         }
@@ -44,6 +45,6 @@ fn run(ring: &mut [u8], buf: &mut [u8], out: &mut [u8]) {
 fn main() {
     let mut ring = [0u8; 30];
     let mut buf = [0u8; 262144];
-    let mut out = [0u8; 96];
+    let mut out = [0u8; 4096];
     run(&mut ring, &mut buf, &mut out);
 }

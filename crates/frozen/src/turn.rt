@@ -1,76 +1,79 @@
-// One turn of the program: what the bytes at hand lead to is decided by watch, and its row is written.
+// One turn of the program: what the bytes at hand lead to is decided by watch; its row goes into a buffer, which is written when it is
+// full and before the program reads.
+ghost use Prim.Native.Nat.{_≤_};
+ghost use lib.ListN.{length};
 use rows::Scored;
 use rows::Word;
 use watch::Line;
 use watch::State;
 use watch::Turn;
 
-// The state, where the image before starts and where the bytes at hand start; `go` is 0 to take a turn more, 1 to read, 2 to end.
+// The state, where the image before starts, where the bytes at hand start, and how many bytes of rows wait to be written;
+// `go` is 0 to take a turn more, 1 to read, 2 to end.
 pub(crate) struct Next {
     pub(crate) state: State,
     pub(crate) from: usize,
     pub(crate) at: usize,
+    pub(crate) full: usize,
     pub(crate) go: u8,
 }
 
-pub(crate) fn first(ring: &mut [u8]) -> Next {
+// The book is open and the first line waits.
+pub(crate) fn first(ring: &mut [u8], out: &mut [u8]) -> Next {
     let state = watch::start(ring);
+    let full = rows::head(out);
     Next {
         state,
         from: 0,
         at: 0,
+        full,
         go: 0,
     }
 }
 
-// The same state at other places of the buffer.
+// The same state at other places of the buffer, with no row waiting.
 pub(crate) fn at(next: Next, from: usize, at: usize) -> Next {
     let state = next.state;
     Next {
         state,
         from,
         at,
+        full: 0,
         go: 0,
     }
 }
 
-fn ended(next: Next, go: u8) -> Next {
+fn ended(next: Next, full: usize, go: u8) -> Next {
     let state = next.state;
     Next {
         state,
         from: next.from,
         at: next.at,
+        full,
         go,
     }
 }
 
-fn write(out: &[u8], n: usize) {
+pub(crate) fn write(out: &[u8], n: usize) {
     if n <= out.len() {
         io::write_all(1, &out[..n]);
     }
 }
 
-pub(crate) fn head(out: &mut [u8]) {
-    let n = rows::head(out);
-    write(out, n);
+// Where the next row goes: behind those that wait, or, where there is no room, at the start once they are written.
+fn place(out: &[u8], full: usize) -> usize
+    ensures { λ r. ⌜ r ≤ length (now (out .entry)) ⌝ }
+{
+    if full <= out.len() {
+        if 96 <= out.len() - full {
+            return full;
+        }
+    }
+    write(out, full);
+    0
 }
 
-fn refused(out: &mut [u8], frames: u64, refusal: u8) {
-    let frame = watch::frame_after(frames);
-    let n = rows::refused(out, frame, refusal);
-    write(out, n);
-}
-
-fn row(out: &mut [u8], line: Line) {
-    let state = line.state;
-    let b = state.book;
-    let scored = line.scored;
-    let word = line.word;
-    let n = rows::row(out, state.frames, scored, b.kept, line.total, word);
-    write(out, n);
-}
-
-// The place behind an image, within the bytes at hand.
+// The place behind some bytes, within an end.
 fn behind(at: usize, used: usize, end: usize) -> usize {
     if used <= end {
         if at <= end - used {
@@ -78,6 +81,30 @@ fn behind(at: usize, used: usize, end: usize) -> usize {
         }
     }
     end
+}
+
+fn refused(out: &mut [u8], full: usize, frames: u64, refusal: u8) -> usize {
+    let at = place(out, full);
+    let frame = watch::frame_after(frames);
+    let n = rows::refused(&mut out[at..], frame, refusal);
+    behind(at, n, out.len())
+}
+
+fn row(out: &mut [u8], full: usize, line: Line) -> usize {
+    let at = place(out, full);
+    let state = line.state;
+    let b = state.book;
+    let scored = line.scored;
+    let word = line.word;
+    let n = rows::row(
+        &mut out[at..],
+        state.frames,
+        scored,
+        b.kept,
+        line.total,
+        word,
+    );
+    behind(at, n, out.len())
 }
 
 pub(crate) fn take(
@@ -91,31 +118,32 @@ pub(crate) fn take(
     let from = next.from;
     let at = next.at;
     if at < from {
-        return ended(next, 2);
+        return ended(next, next.full, 2);
     }
     if end < at {
-        return ended(next, 2);
+        return ended(next, next.full, 2);
     }
     if buf.len() < end {
-        return ended(next, 2);
+        return ended(next, next.full, 2);
     }
     let state = next.state;
     match watch::decide(state, ring, &buf[from..at], &buf[at..end], over) {
         Turn::Row(line) => {
-            row(out, line);
+            let full = row(out, next.full, line);
             let after = line.state;
             Next {
                 state: after,
                 from: at,
                 at: behind(at, line.used, end),
+                full,
                 go: 0,
             }
         }
         Turn::Refused(refusal) => {
-            refused(out, state.frames, refusal);
-            ended(next, 2)
+            let full = refused(out, next.full, state.frames, refusal);
+            ended(next, full, 2)
         }
-        Turn::Ends => ended(next, 2),
-        Turn::Wait => ended(next, 1),
+        Turn::Ends => ended(next, next.full, 2),
+        Turn::Wait => ended(next, next.full, 1),
     }
 }

@@ -12,7 +12,7 @@ use Rattle.frozen.proofs.buffer.make_room.Reads as make-room-reads
 use Rattle.frozen.proofs.drain.Reads as drain-reads
 use Rattle.frozen.proofs.turn.at.Reads as at-reads
 use Rattle.frozen.proofs.turn.first.Reads as first-reads
-use Rattle.frozen.proofs.turn.head.Reads as head-reads
+use Rattle.frozen.proofs.turn.write.Reads as write-reads
 
 abbrev Inv-loop : tie.InvT-loop
 Inv-loop ring₀ buf₀ out₀ next₀ end₀ left₀ ring buf out next end left = (length ring ≡ length ring₀) × (length buf ≡ length buf₀) × (length out ≡ length out₀)
@@ -20,11 +20,11 @@ Inv-loop ring₀ buf₀ out₀ next₀ end₀ left₀ ring buf out next end left
 abbrev μ-loop : tie.MeasureT-loop
 μ-loop ring₀ buf₀ out₀ next₀ end₀ left₀ ring buf out next end left = left
 
-head-requires : tie.Need-head-requires Inv-loop μ-loop
-head-requires c κs = tt
-
 first-requires : tie.Need-first-requires Inv-loop μ-loop
 first-requires c κs = tt
+
+write-requires : tie.Need-write-requires Inv-loop μ-loop
+write-requires c κs = tt
 
 loop-holds : tie.Need-loop-holds Inv-loop μ-loop
 loop-holds c = (refl, refl, refl)
@@ -41,35 +41,38 @@ fill-requires c κs = tt
 drain-requires : tie.Need-drain-requires Inv-loop μ-loop
 drain-requires c κs = tt
 
+write-requires-2 : tie.Need-write-requires-2 Inv-loop μ-loop
+write-requires-2 c κs = tt
+
 same-length : tie.Need-same-length Inv-loop μ-loop
-same-length c = c .before .before .before .before .before .before .drain .kept .1 .0 ∙ c .before .before .before .before .before .before .before .before .before .before .before .before .before .before .before .before .before .before .before .before .loop .inv .0 ∙ c .before .before .before .before .before .before .before .before .before .before .before .before .before .before .before .before .before .before .before .before .before .before .before .first .kept .0
+same-length c = c .before .before .before .before .before .before .before .before .drain .kept .1 .0 ∙ c .before .before .before .before .before .before .before .before .before .before .before .before .before .before .before .before .before .before .before .before .before .before .loop .inv .0 ∙ c .before .before .before .before .before .before .before .before .before .before .before .before .before .before .before .before .before .before .before .before .before .before .before .before .before .before .before .before .before .first .kept .0
 
 same-length-2 : tie.Need-same-length-2 Inv-loop μ-loop
-same-length-2 c = c .before .before .before .before .before .before .before .before .before .before .before .before .fill .kept .0 ∙ c .before .before .before .before .before .before .before .before .before .before .before .before .before .before .before .before .before .make-room .kept .0 ∙ c .before .before .before .before .before .before .before .before .before .before .before .before .before .before .before .before .before .before .before .before .loop .inv .1
+same-length-2 c = c .before .before .before .before .before .before .before .before .before .before .before .before .before .before .fill .kept .0 ∙ c .before .before .before .before .before .before .before .before .before .before .before .before .before .before .before .before .before .before .before .make-room .kept .0 ∙ c .before .before .before .before .before .before .before .before .before .before .before .before .before .before .before .before .before .before .before .before .before .before .loop .inv .1
 
 same-length-3 : tie.Need-same-length-3 Inv-loop μ-loop
-same-length-3 c = c .before .before .before .before .before .before .drain .kept .1 .1 .1 .1 .1 .0 ∙ c .before .before .before .before .before .before .before .before .before .before .before .before .before .before .before .before .before .before .before .before .loop .inv .2 ∙ c .before .before .before .before .before .before .before .before .before .before .before .before .before .before .before .before .before .before .before .before .before .before .before .before .before .before .before .head .kept .0
+same-length-3 c = c .before .before .before .before .before .before .before .before .drain .kept .1 .1 .1 .1 .1 .0 ∙ c .before .before .before .before .before .before .before .before .before .before .before .before .before .before .before .before .before .before .before .before .before .before .loop .inv .2 ∙ c .before .before .before .before .before .before .before .before .before .before .before .before .before .before .before .before .before .before .before .before .before .before .before .before .before .before .before .before .before .first .kept .1 .0
 
 returns : tie.Need-returns Inv-loop μ-loop
 returns c = tt
 
 sub-left : tie.Need-sub-left Inv-loop μ-loop
-sub-left c = omega (arith, c .before .before .before .before .before .before .before .before .before .before .before .before .before .before .before .before .before .before .before .loop-test .taken)
+sub-left c = omega (arith, c .before .before .before .before .before .before .before .before .before .before .before .before .before .before .before .before .before .before .before .before .before .loop-test .taken)
 
 loop-less : tie.Need-loop-less Inv-loop μ-loop
-loop-less c = omega (arith, c .before .before .before .before .before .before .before .before .before .before .before .before .before .before .before .before .before .before .before .loop-test .taken)
+loop-less c = omega (arith, c .before .before .before .before .before .before .before .before .before .before .before .before .before .before .before .before .before .before .before .before .before .loop-test .taken)
 
 loop-again : tie.Need-loop-again Inv-loop μ-loop
-loop-again c = (c .before .before .before .before .before .before .drain .kept .1 .0 ∙ c .before .before .before .before .before .before .before .before .before .before .before .before .before .before .before .before .before .before .before .before .loop .inv .0, c .before .before .before .before .before .before .before .before .before .before .before .before .fill .kept .0 ∙ c .before .before .before .before .before .before .before .before .before .before .before .before .before .before .before .before .before .make-room .kept .0 ∙ c .before .before .before .before .before .before .before .before .before .before .before .before .before .before .before .before .before .before .before .before .loop .inv .1, c .before .before .before .before .before .before .drain .kept .1 .1 .1 .1 .1 .0 ∙ c .before .before .before .before .before .before .before .before .before .before .before .before .before .before .before .before .before .before .before .before .loop .inv .2)
+loop-again c = (c .before .before .before .before .before .before .before .before .drain .kept .1 .0 ∙ c .before .before .before .before .before .before .before .before .before .before .before .before .before .before .before .before .before .before .before .before .before .before .loop .inv .0, c .before .before .before .before .before .before .before .before .before .before .before .before .before .before .fill .kept .0 ∙ c .before .before .before .before .before .before .before .before .before .before .before .before .before .before .before .before .before .before .before .make-room .kept .0 ∙ c .before .before .before .before .before .before .before .before .before .before .before .before .before .before .before .before .before .before .before .before .before .before .loop .inv .1, c .before .before .before .before .before .before .before .before .drain .kept .1 .1 .1 .1 .1 .0 ∙ c .before .before .before .before .before .before .before .before .before .before .before .before .before .before .before .before .before .before .before .before .before .before .loop .inv .2)
 
 same-length-4 : tie.Need-same-length-4 Inv-loop μ-loop
-same-length-4 c = c .before .loop .inv .0 ∙ c .before .before .before .before .first .kept .0
+same-length-4 c = c .before .loop .inv .0 ∙ c .before .before .before .before .before .before .before .before .first .kept .0
 
 same-length-5 : tie.Need-same-length-5 Inv-loop μ-loop
 same-length-5 c = c .before .loop .inv .1
 
 same-length-6 : tie.Need-same-length-6 Inv-loop μ-loop
-same-length-6 c = c .before .loop .inv .2 ∙ c .before .before .before .before .before .before .before .before .head .kept .0
+same-length-6 c = c .before .loop .inv .2 ∙ c .before .before .before .before .before .before .before .before .first .kept .1 .0
 
 returns-2 : tie.Need-returns-2 Inv-loop μ-loop
 returns-2 c = tt
@@ -80,13 +83,14 @@ run-spec =
     (tie.spec
     Inv-loop
     μ-loop
-    head-requires
     first-requires
+    write-requires
     loop-holds
     make-room-requires
     at-requires
     fill-requires
     drain-requires
+    write-requires-2
     same-length
     same-length-2
     same-length-3
