@@ -1,5 +1,5 @@
-// Calls from standard input, one a line; an answer a line on standard output, as soon as its line is read. Nothing is kept between
-// lines. What is answered is held to the file stdout, which a reference written from the papers alone made (reference/).
+// Calls from standard input, one a line; an answer a line on standard output, as soon as its line is read. Nothing is kept
+// between lines. What is answered is held to the file stdout, which a reference written from the papers alone made (reference/).
 mod books;
 mod fields;
 mod images;
@@ -9,7 +9,7 @@ mod rings;
 mod text;
 
 fn main() {
-    // A line of three fields of 32,768 bytes has less than 200,000 characters.
+    // A line with three fields of 32,768 bytes has less than 200,000 characters. One that fills the buffer cannot be read.
     let mut buf = [0u8; 262144];
     let mut first = [0u8; 32768];
     let mut second = [0u8; 32768];

@@ -1,9 +1,9 @@
 -- `vectors::input::answer_all` ends, takes parts of the lines that are there, and keeps the length of each slice that it lends.
 -- Assumes nothing.
 use Prim.Native.Nat.{_≤_, _-_}
-use mathlib.Core.Path.{_≡_, refl, sym, ap, _∙_}
+use mathlib.Core.Path.{_≡_, refl}
 use native.Mathlib.Omega.{arith}
-use lib.ListN.{length, length-set}
+use lib.ListN.{length}
 use Rattle.vectors.proofs.input.answer_all.Statement.{statement}
 use Rattle.vectors.proofs.input.answer_all.Tie as tie
 

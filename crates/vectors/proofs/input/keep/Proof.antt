@@ -1,7 +1,7 @@
 -- `vectors::input::keep` ends, stays in the buffer, and keeps its length.
 -- Assumes nothing.
 use Prim.Native.Nat.{_≤_, _-_}
-use mathlib.Core.Path.{_≡_, refl, sym, ap, _∙_}
+use mathlib.Core.Path.{_≡_, refl}
 use native.Mathlib.Omega.{arith}
 use lib.ListN.{length, length-set}
 use Rattle.vectors.proofs.input.keep.Statement.{statement}

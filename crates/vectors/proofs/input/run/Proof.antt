@@ -1,7 +1,6 @@
 -- `vectors::input::run` ends, and keeps the length of each slice that it lends. The measure is the number of turns that are left.
 -- Assumes nothing.
-use Prim.Native.Nat.{_≤_, _-_}
-use mathlib.Core.Path.{_≡_, refl, sym, ap, _∙_}
+use mathlib.Core.Path.{_≡_, refl, _∙_}
 use native.Mathlib.Omega.{arith}
 use lib.ListN.{length}
 use Rattle.vectors.proofs.input.run.Statement.{statement}

@@ -1,7 +1,7 @@
 -- `vectors::input::send` writes a part that lies in the slice.
 -- Assumes nothing.
 use borrow.Author.Needs.{needs}
-use mathlib.Core.Path.{_≡_, sym}
+use mathlib.Core.Path.{sym}
 use denote.Ref.{now}
 use lib.Seq.{length-take-le}
 use Rattle.vectors.proofs.input.send.Statement.{statement}

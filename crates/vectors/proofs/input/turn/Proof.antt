@@ -1,7 +1,7 @@
 -- `vectors::input::turn` lends parts of the buffer that are there.
 -- Assumes nothing.
 use borrow.Author.Needs.{needs}
-use mathlib.Core.Path.{_≡_, sym}
+use mathlib.Core.Path.{sym}
 use lib.Seq.{length-take-le}
 use Rattle.vectors.proofs.input.turn.Statement.{statement}
 use Rattle.vectors.proofs.input.turn.Tie as tie

@@ -1,7 +1,7 @@
 -- `vectors::reading::bytes`: the bytes that it says it read lie in the slice.
 -- Assumes nothing.
 use borrow.Author.Needs.{needs}
-use mathlib.Core.Path.{_≡_, refl, sym, ap, _∙_}
+use mathlib.Core.Path.{sym}
 use Prim.Native.Nat.{_≤_, _/_}
 use native.Mathlib.Omega.{arith}
 use lib.ListN.{length}

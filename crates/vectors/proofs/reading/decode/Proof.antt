@@ -1,7 +1,7 @@
 -- `vectors::reading::decode` ends, stays in both slices, and keeps the length of the one that it writes.
 -- Assumes nothing.
 use Prim.Native.Nat.{_≤_, _-_}
-use mathlib.Core.Path.{_≡_, refl, sym, ap, _∙_}
+use mathlib.Core.Path.{_≡_, refl}
 use native.Mathlib.Omega.{arith}
 use lib.ListN.{length, length-set}
 use Rattle.vectors.proofs.reading.decode.Statement.{statement}

@@ -1,9 +1,9 @@
 -- `vectors::text::word` ends, reads no byte past the end, and keeps the length of the slice that it writes.
 -- Assumes nothing.
 use Prim.Native.Nat.{_≤_, _-_}
-use mathlib.Core.Path.{_≡_, refl, sym, ap, _∙_}
+use mathlib.Core.Path.{_≡_, refl, _∙_}
 use native.Mathlib.Omega.{arith}
-use lib.ListN.{length, length-set}
+use lib.ListN.{length}
 use Rattle.vectors.proofs.text.word.Statement.{statement}
 use Rattle.vectors.proofs.text.word.Tie as tie
 
