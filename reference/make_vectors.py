@@ -390,7 +390,9 @@ def limits():
     yield call("pgm", b"P5" + b" " * 24566 + b"1 1 255\n\x01")
     yield call("pgm", b"P5" + b" " * 24573 + b"x")
     yield call("pgm", b"P5" + b" " * 24574 + b"x")
-    yield call("pgm", b"P5 " + b"0" * 24000 + b"1 1 255 \x05")
+    yield call("pgm", b"P5" + b" " * 24574)
+    yield call("pgm", b"P5 " + b"9" * 5000 + b" 1 255 \x05")
+    yield call("pgm", b"P5 " + b"0" * 5000 + b"1 1 255 \x05")
     yield call("pgm", bytes(32768))
 
 
@@ -464,13 +466,15 @@ UNREADABLE = [
 
 
 def unreadable():
-    """The lines above; numbers around 2^64; a field and a line that are too long, and a line after it that is not."""
+    """The lines above; numbers around 2^64 and of 5,000 digits; a field and a line too long, and a line after it that is not."""
     yield from UNREADABLE
     for number in (2**64 - 1, 2**64, 2**64 + 3, 2**64 + 5, 10 * 2**64, 10**30):
         yield f"open {number} 6 10 ff"
         yield f"open 5 6 {number} ff"
         yield f"total 5,6,10,{number},1,6,0 40 5"
         yield f"total 5,6,10,13,1,6,0 40 {number}"
+    yield "open " + "0" * 5000 + "5 6 10 ff"
+    yield "open " + "9" * 5000 + " 6 10 ff"
     yield "pgm " + "00" * 32769
     yield "x" * 270000
     yield "open 5 6 10 ff"
