@@ -4,7 +4,8 @@
     python3 reference/make_vectors.py            writes both files, the same ones each time
     python3 reference/make_vectors.py --check    says whether they are the ones that stand there
 
-The answers come from model.py, which is written from the papers alone. Python's standard library is all it takes.
+The answers come from model.py, which is written from the papers alone and is first held to the figures of worked.py.
+It takes Python 3.9 or later, and no package.
 """
 
 import random
@@ -12,20 +13,11 @@ import sys
 from pathlib import Path
 
 import model
+import worked
 from model import Record, show
 
 HOME = Path(__file__).resolve().parent.parent / "crates" / "vectors"
 TOP = 2**64 - 1
-
-# The worked lines of the vectors' format, call and answer.
-WORKED = [
-    ("open 5 6 10 ff", "0 5,6,10,0,0,0,0 00"),
-    ("add 5,6,10,13,1,6,0 40 2", "0 5,6,10,5,0,6,1 c0"),
-    ("total 5,6,10,13,1,6,0 40 5", "0 14"),
-    ("far 5,6,10,13,1,6,0 40 15", "9 0"),
-    ("verdict 5,6,10,13,1,6,0 40 4 18", "0 undecided 9"),
-    ("pgm 50350a322032203235350a00000000", "0 2 2 255 15 11 4"),
-]
 
 
 def call(name, *arguments):
@@ -191,7 +183,7 @@ def whole_lives(rng, count):
         for _ in range(rng.randint(1, 14)):
             life.add(rng.choice([0, L, rng.randint(0, L)]))
         kept = life.record.kept
-        for i in {0, 1, kept, kept + 1, rng.randint(0, kept)}:
+        for i in sorted({0, 1, kept, kept + 1, rng.randint(0, kept)}):
             life.ask("total", i)
         questions(rng, life)
         yield from life.lines
@@ -202,7 +194,7 @@ def questions(rng, life):
     record, ring = life.record, life.ring
     w = rng.randint(1, record.kept)
     f = model.total(record, ring, w)[1]
-    for v in {0, 1, f, f + 1, f + record.D - 1, f + record.D}:
+    for v in sorted({0, 1, f, f + 1, f + record.D - 1, f + record.D}):
         life.ask("verdict", w, v)
         life.ask("far", v)
     life.ask("verdict", 0, f + 1)
@@ -223,7 +215,7 @@ def any_book(rng):
 def book_calls(rng, record, ring):
     yield call("add", record, ring, rng.choice([0, record.L, rng.randint(0, record.L), record.L + 1, TOP]) & TOP)
     kept = min(record.kept, 5000)
-    for i in {0, kept, rng.randint(0, kept), kept + 1, TOP}:
+    for i in sorted({0, kept, rng.randint(0, kept), kept + 1, TOP}):
         yield call("total", record, ring, i)
     w = rng.randint(0, kept)
     f = model.total(record, ring, w)[1]
@@ -350,9 +342,11 @@ def wrong_bytes(rng):
     for place in range(len(header)):
         for byte in b"#xP5-+.\x00\x0b\x0c\x80\xff 0\n":
             yield call("pgm", header[:place] + bytes([byte]) + header[place + 1 :] + b"\x05" * 36)
-    for text in (b"P5 1025", b"P5 1025x", b"P5 1025 x", b"P5 1025  ", b"P5 0", b"P5 0 ", b"P5 1 0 ", b"P5 1 1 0 ", b"P5 ", b"P5#c\n"):
+    for text in (b"P5 1025", b"P5 1025x", b"P5 1025 x", b"P5 1025  ", b"P5 0", b"P5 0 ", b"P5 1 0 ", b"P5 1 1 0 "):
         yield call("pgm", text)
-    for text in (b"P5 1 1 255", b"P5 1 1 255\r\nA", b"P5 1 1 255x", b"P5 1 1  255 \x01", b"P5 0001 02 0200 \x05\x06", b"P6 1 1 255 a"):
+    for text in (b"P5 ", b"P5#c\n", b"P5 1 1 255", b"P5 1 1 255\r\nA", b"P5 1 1 255x", b"P5 1 1  255 \x01"):
+        yield call("pgm", text)
+    for text in (b"P5 0001 02 0200 \x05\x06", b"P6 1 1 255 a", b"P2 1 1 255 0"):
         yield call("pgm", text)
 
 
@@ -365,7 +359,7 @@ def random_image(rng, top=6):
 
 def damaged(rng, data):
     """One fault: a byte changed, put in, taken out, or the end gone."""
-    place = rng.randrange(len(data))
+    place = rng.randrange(max(1, len(data)))
     byte = bytes([rng.choice([rng.randrange(256), rng.choice(b" \t\r\n0123456789#P5")])])
     which = rng.randrange(4)
     if which == 0:
@@ -396,7 +390,9 @@ def limits():
     yield call("pgm", b"P5" + b" " * 24566 + b"1 1 255\n\x01")
     yield call("pgm", b"P5" + b" " * 24573 + b"x")
     yield call("pgm", b"P5" + b" " * 24574 + b"x")
-    yield call("pgm", b"P5 " + b"0" * 24000 + b"1 1 255 \x05")
+    yield call("pgm", b"P5" + b" " * 24574)
+    yield call("pgm", b"P5 " + b"9" * 5000 + b" 1 255 \x05")
+    yield call("pgm", b"P5 " + b"0" * 5000 + b"1 1 255 \x05")
     yield call("pgm", bytes(32768))
 
 
@@ -415,7 +411,8 @@ def score_edges(rng):
         yield call("score", 600, a, dark, lit)
         yield call("score", 600, a, lit, dark)
         yield call("score", 600, a, full, dark)
-    others = [image(1, 2, 255, bytes(2)), image(2, 1, 255, bytes(2)), image(2, 2, 254, bytes(4)), image(1, 1, 1, b"\x02")]
+    others = [image(1, 2, 255, bytes(2)), image(2, 1, 255, bytes(2)), image(2, 2, 254, bytes(4))]
+    others += [image(1, 1, 1, b"\x02"), image(2, 2, 255, bytes([20, 12, 13, 0]), (b" ", b"\r\n", b"\t", b" "))]
     others += [b"", b"P5", b"x", b"P5 0 ", b"P5 1024 1024 255 ", dark + b"\x00", lit[:-1]]
     for other in others:
         yield call("score", 600, 12, dark, other)
@@ -438,34 +435,46 @@ def random_scores(rng, count):
 
 
 def large_scores():
-    """The camera's size, and the largest raster against itself."""
+    """The camera's size; the largest raster, black against white, in slices of 32,768 bytes."""
     dark = image(160, 120, 255, b"\x80" * 19200)
     lit = image(160, 120, 255, b"\x8d" * 19200)
     yield call("score", 600, 12, dark, lit)
     gaps = (b"\n" * 10, b" ", b" ", b"\n")
-    yield call("score", 65535, 254, image(24, 1023, 255, bytes(24552), gaps), image(24, 1023, 255, b"\xff" * 24552, gaps))
+    black, white = (image(24, 1023, 255, pixel * 24552, gaps) + bytes(8192) for pixel in (b"\x00", b"\xff"))
+    yield call("score", 65535, 254, black, white)
 
 
 # --- lines ------------------------------------------------------------------------------------------------------------
 
 
+# Lines that no call can be read from, beside some that just can: names, spaces, hex, numbers, records, counts of fields.
+UNREADABLE = [
+    *("", " ", "?", "opens 5 6 10 ff", "ope 5 6 10 ff", "OPEN 5 6 10 ff", "open", "open ", "open 5", "open 5 6 10"),
+    *("open 5 6 10 ff ", " open 5 6 10 ff", "open  5 6 10 ff", "open 5 6 10  ff", "open 5 6 10 ff ff", "open\t5 6 10 ff"),
+    *("open 5 6 10 f", "open 5 6 10 fff", "open 5 6 10 FF", "open 5 6 10 fg", "open 5 6 10 --", "open 5 6 10 -0"),
+    *("open 5 6 10 0x", "open 5 6 10 `a", "open 5 6 10 /0", "open 5 6 10 :0", "open 5 6 10 ff\r", "open 5 6 10 -"),
+    *("open -5 6 10 ff", "open +5 6 10 ff", "open 5. 6 10 ff", "open 0x5 6 10 ff", "open a 6 10 ff", "open - 6 10 ff"),
+    *("open / 6 10 ff", "open : 6 10 ff", "open 005 06 00000000000000000000010 ff"),
+    *("total 5,6,10,13,1,6 40 5", "total 5,6,10,13,1,6,0,0 40 5", "total 5,6,10,13,1,6, 40 5", "total ,6,10,13,1,6,0 40 5"),
+    *("total 5,,10,13,1,6,0 40 5", "total 5,6,10,13,1,6,0, 40 5", "total 5 40 5", "total - 40 5"),
+    *("total 05,6,10,013,1,6,00 40 05", "total 5,6,10,13,1,6,0 40", "total 5,6,10,13,1,6,0 40 5 5"),
+    *("add 5,6,10,13,1,6,0 40", "add 5,6,10,13,1,6,0 40 2 2", "verdict 5,6,10,13,1,6,0 40 4", "far 5,6,10,13,1,6,0 40 -"),
+    *("pgm", "pgm ", "pgm -", "pgm 5", "pgm 50", "pgm 50 50", "pgm 5x", "ring_clear 1 8", "ring_clear 1 8 a5"),
+    *("ring_clear 1 8 a5 0", "ring_read 1 8 a5", "ring_write 1 8 a5 0", "ring_sum 1 8 a5 0", "ring_sum 1 8 a5 0 1 1"),
+    *("score 600 255 - -", "score 600 256 - -", f"score 600 {TOP} - -", "score 600 12 -", "score 0 256 - -"),
+]
+
+
 def unreadable():
-    """Lines that no call can be read from, beside some that just can."""
-    yield from ("", " ", "?", "opens 5 6 10 ff", "ope 5 6 10 ff", "OPEN 5 6 10 ff", "open", "open ", "open 5", "open 5 6 10")
-    yield from ("open 5 6 10 ff ", " open 5 6 10 ff", "open  5 6 10 ff", "open 5 6 10  ff", "open 5 6 10 ff ff", "open\t5 6 10 ff")
-    yield from ("open 5 6 10 f", "open 5 6 10 fff", "open 5 6 10 FF", "open 5 6 10 fg", "open 5 6 10 --", "open 5 6 10 -0", "open 5 6 10 0x")
-    yield from ("open -5 6 10 ff", "open +5 6 10 ff", "open 5. 6 10 ff", "open 0x5 6 10 ff", "open a 6 10 ff", "open - 6 10 ff")
-    yield from ("open 5 6 10 ff\r", "open 5 6 10 -", "open 005 06 00000000000000000000010 ff")
-    for number in (2**64 - 1, 2**64, 2**64 + 5, 10 * 2**64, 18446744073709551619, 10**30):
+    """The lines above; numbers around 2^64 and of 5,000 digits; a field and a line too long, and a line after it that is not."""
+    yield from UNREADABLE
+    for number in (2**64 - 1, 2**64, 2**64 + 3, 2**64 + 5, 10 * 2**64, 10**30):
         yield f"open {number} 6 10 ff"
         yield f"open 5 6 {number} ff"
         yield f"total 5,6,10,{number},1,6,0 40 5"
         yield f"total 5,6,10,13,1,6,0 40 {number}"
-    yield from ("total 5,6,10,13,1,6 40 5", "total 5,6,10,13,1,6,0,0 40 5", "total 5,6,10,13,1,6, 40 5", "total ,6,10,13,1,6,0 40 5")
-    yield from ("total 5,,10,13,1,6,0 40 5", "total 5,6,10,13,1,6,0, 40 5", "total 5 40 5", "total - 40 5", "total 05,6,10,013,1,6,00 40 05")
-    yield from ("add 5,6,10,13,1,6,0 40", "add 5,6,10,13,1,6,0 40 2 2", "verdict 5,6,10,13,1,6,0 40 4", "far 5,6,10,13,1,6,0 40 -")
-    yield from ("pgm", "pgm ", "pgm -", "pgm 5", "pgm 50", "pgm 50 50", "pgm 5x", "ring_clear 1 8", "ring_clear 1 8 a5", "ring_sum 1 8 a5 0")
-    yield from ("score 600 255 - -", "score 600 256 - -", f"score 600 {TOP} - -", "score 600 12 -", "score 0 256 - -")
+    yield "open " + "0" * 5000 + "5 6 10 ff"
+    yield "open " + "9" * 5000 + " 6 10 ff"
     yield "pgm " + "00" * 32769
     yield "x" * 270000
     yield "open 5 6 10 ff"
@@ -473,7 +482,7 @@ def unreadable():
 
 def lines():
     """All calls, in order. Each group has its own seed, so that a change in one leaves the others as they are."""
-    yield from (line for line, _ in WORKED)
+    yield from (line for line, _ in worked.FORMAT + worked.CASES)
     yield from worked_books()
     yield from ring_edges(random.Random(1))
     yield from ring_values(random.Random(2))
@@ -498,14 +507,14 @@ def lines():
 
 
 def main():
-    for line, expected in WORKED:
-        if model.answer(line) != expected:
-            sys.exit(f"the model answers {line!r} with {model.answer(line)!r}, and the format says {expected!r}")
+    faults = list(worked.faults())
+    if faults:
+        sys.exit("\n".join(faults))
     calls = list(lines())
     stdin = "".join(line + "\n" for line in calls)
     stdout = "".join(model.answer(line) + "\n" for line in calls)
     if sys.argv[1:] == ["--check"]:
-        same = (HOME / "stdin").read_text() == stdin and (HOME / "stdout").read_text() == stdout
+        same = (HOME / "stdin").read_bytes() == stdin.encode() and (HOME / "stdout").read_bytes() == stdout.encode()
         sys.exit(None if same else "the files differ from what this script makes")
     HOME.mkdir(parents=True, exist_ok=True)
     (HOME / "stdin").write_bytes(stdin.encode())

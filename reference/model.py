@@ -354,9 +354,12 @@ class Unreadable(Exception):
 
 def take_number(text):
     """Digits alone, leading zeros allowed, below 2^64."""
-    if not text or any(c not in "0123456789" for c in text) or int(text) >= 2**64:
+    if not text or any(c not in "0123456789" for c in text):
         raise Unreadable
-    return int(text)
+    digits = text.lstrip("0") or "0"
+    if len(digits) > 20 or int(digits) >= 2**64:
+        raise Unreadable
+    return int(digits)
 
 
 def take_byte(text):

@@ -1,0 +1,65 @@
+// The calls on images. Each gives how many bytes its answer has, 0 if the line cannot be read.
+use crate::fields::calls;
+use crate::fields::has;
+use crate::reading::bytes_in;
+use crate::reading::number_in;
+use crate::text;
+
+fn next(out: &mut [u8], at: usize, n: usize) -> usize {
+    text::next(out, at, n as u64)
+}
+
+fn numbers(s: &[u8], out: &mut [u8]) -> usize {
+    let r = image::header(s);
+    let raster = image::raster(s);
+    let zero = text::refusal(out, r.refusal);
+    let one = next(out, zero, r.width);
+    let two = next(out, one, r.height);
+    let three = next(out, two, r.maxval);
+    let four = next(out, three, r.used);
+    let five = next(out, four, r.start);
+    next(out, five, raster.len())
+}
+
+fn compared(bound: u64, allowance: u8, first: &[u8], second: &[u8], out: &mut [u8]) -> usize {
+    let r = score::score(bound, allowance, first, second);
+    let at = text::refusal(out, r.refusal);
+    text::next(out, at, r.value)
+}
+
+fn pgm(line: &[u8], slice: &mut [u8], out: &mut [u8]) -> usize {
+    let taken = bytes_in(line, 1, slice);
+    let n = taken.size;
+    if has(line, 1) && taken.ok {
+        return numbers(&slice[..n], out);
+    }
+    0
+}
+
+// The allowance is a byte: a line with a larger number cannot be read.
+fn score_of(line: &[u8], first: &mut [u8], second: &mut [u8], out: &mut [u8]) -> usize {
+    let bound = number_in(line, 1);
+    let allowance = number_in(line, 2);
+    let one = bytes_in(line, 3, first);
+    let two = bytes_in(line, 4, second);
+    let m = one.size;
+    let n = two.size;
+    let a = allowance.value;
+    if a > 255 {
+        return 0;
+    }
+    if has(line, 4) && bound.ok && allowance.ok && one.ok && two.ok {
+        return compared(bound.value, a as u8, &first[..m], &second[..n], out);
+    }
+    0
+}
+
+pub(crate) fn answer(line: &[u8], first: &mut [u8], second: &mut [u8], out: &mut [u8]) -> usize {
+    if calls(line, b"pgm") {
+        return pgm(line, first, out);
+    }
+    if calls(line, b"score") {
+        return score_of(line, first, second, out);
+    }
+    0
+}

@@ -1,0 +1,19 @@
+// Calls from standard input, one a line; an answer a line on standard output, as soon as its line is read. Nothing is kept
+// between lines. What is answered is held to the file stdout, which a reference written from the papers alone made (reference/).
+mod books;
+mod fields;
+mod images;
+mod input;
+mod reading;
+mod rings;
+mod text;
+
+fn main() {
+    // A line with three fields of 32,768 bytes has less than 200,000 characters. One that fills the buffer cannot be read.
+    let mut buf = [0u8; 262144];
+    let mut first = [0u8; 32768];
+    let mut second = [0u8; 32768];
+    // The longest answer: a refusal, a record of seven numbers, 32,768 bytes as hex, and the line's end.
+    let mut out = [0u8; 65792];
+    input::run(&mut buf, &mut first, &mut second, &mut out);
+}

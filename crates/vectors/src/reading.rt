@@ -1,0 +1,183 @@
+// Numbers, records and bytes from their text.
+use crate::fields::count;
+use crate::fields::field;
+use crate::fields::part;
+use book::Book;
+ghost use Prim.Native.Nat.{_≤_, _*_};
+ghost use mathlib.Core.Path.{_≡_};
+ghost use lib.ListN.{length};
+ghost use Rattle.io.specs.Counts.{Counts};
+
+// A number, if the text is one.
+pub(crate) struct Parsed {
+    pub ok: bool,
+    pub value: u64,
+}
+
+// How many bytes were read, if the text is bytes that fit.
+pub(crate) struct Size {
+    pub ok: bool,
+    pub size: usize,
+}
+
+// A record, if the text is one.
+pub(crate) struct Entry {
+    pub ok: bool,
+    pub book: Book,
+}
+
+fn bad() -> Parsed {
+    Parsed {
+        ok: false,
+        value: 0,
+    }
+}
+
+fn wide(byte: u8) -> u64
+    ensures { λ r. ⌜ r ≡ byte ⌝ }
+{
+    byte as u64
+}
+
+pub(crate) fn native(n: u64) -> usize {
+    n as usize
+}
+
+// The number with one more digit. What would not be below 2^64 is none.
+fn with_digit(n: Parsed, byte: u8) -> Parsed {
+    if !n.ok {
+        return n;
+    }
+    if byte < b'0' {
+        return bad();
+    }
+    if byte > b'9' {
+        return bad();
+    }
+    let digit = wide(byte - b'0');
+    let before = n.value;
+    if before > (u64::MAX - digit) / 10 {
+        return bad();
+    }
+    Parsed {
+        ok: true,
+        value: before * 10 + digit,
+    }
+}
+
+// One digit or more and nothing else; zeros may lead.
+pub(crate) fn number(text: &[u8]) -> Parsed {
+    let mut n = Parsed {
+        ok: text.len() != 0,
+        value: 0,
+    };
+    let mut i = 0;
+    while i < text.len() {
+        n = with_digit(n, text[i]);
+        i += 1;
+    }
+    n
+}
+
+// The number in a field of the line.
+pub(crate) fn number_in(line: &[u8], at: usize) -> Parsed {
+    number(field(line, at))
+}
+
+// The number in a field of the line; 0 for a field that the call does not have.
+pub(crate) fn number_up_to(line: &[u8], at: usize, last: usize) -> Parsed {
+    if last < at {
+        return Parsed { ok: true, value: 0 };
+    }
+    number_in(line, at)
+}
+
+// The record `L,n,D,R,p,kept,head` in the first field.
+pub(crate) fn record_in(line: &[u8]) -> Entry {
+    let text = field(line, 1);
+    let l = number(part(text, b',', 0));
+    let n = number(part(text, b',', 1));
+    let d = number(part(text, b',', 2));
+    let r = number(part(text, b',', 3));
+    let p = number(part(text, b',', 4));
+    let kept = number(part(text, b',', 5));
+    let head = number(part(text, b',', 6));
+    Entry {
+        ok: count(text, b',') == 6 && l.ok && n.ok && d.ok && r.ok && p.ok && kept.ok && head.ok,
+        book: Book {
+            bound: l.value,
+            length: n.value,
+            tolerance: d.value,
+            carry: r.value,
+            phase: p.value,
+            kept: kept.value,
+            head: head.value,
+        },
+    }
+}
+
+// The value of a hex digit, lower case alone; 16 for any other byte.
+fn nibble(byte: u8) -> u8 {
+    if byte >= b'0' && byte <= b'9' {
+        return byte - b'0';
+    }
+    if byte >= b'a' && byte <= b'f' {
+        return byte - b'a' + 10;
+    }
+    16
+}
+
+// Puts the first bytes of the text, two digits each, into the slice. Gives false at a byte that is no digit.
+fn decode(text: &[u8], out: &mut [u8], bytes: usize) -> bool
+    requires { ⌜ (bytes ≤ length (now out)) × (2 * bytes ≤ length (now text)) ⌝ }
+{
+    let mut i = 0;
+    while i < bytes {
+        let high = nibble(text[2 * i]);
+        let low = nibble(text[2 * i + 1]);
+        if high > 15 {
+            return false;
+        }
+        if low > 15 {
+            return false;
+        }
+        out[i] = high * 16 + low;
+        i += 1;
+    }
+    true
+}
+
+fn is_dash(text: &[u8]) -> bool {
+    if text.len() != 1 {
+        return false;
+    }
+    text[0] == b'-'
+}
+
+// Bytes as hex, `-` for none, into the slice; more than fit into it are not taken.
+fn bytes(text: &[u8], out: &mut [u8]) -> Size
+    ensures { λ r. ⌜ Counts (r .size) (now (out .exit)) ⌝ }
+{
+    let half = text.len() / 2;
+    if is_dash(text) {
+        return Size { ok: true, size: 0 };
+    }
+    if text.len() == 0 {
+        return Size { ok: false, size: 0 };
+    }
+    if text.len() % 2 != 0 {
+        return Size { ok: false, size: 0 };
+    }
+    if half > out.len() {
+        return Size { ok: false, size: 0 };
+    }
+    let ok = decode(text, out, half);
+    Size { ok, size: half }
+}
+
+// The bytes in a field of the line.
+pub(crate) fn bytes_in(line: &[u8], at: usize, out: &mut [u8]) -> Size
+    ensures { λ r. ⌜ Counts (r .size) (now (out .exit)) ⌝ }
+{
+    bytes(field(line, at), out)
+}

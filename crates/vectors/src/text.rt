@@ -1,0 +1,89 @@
+// Text put into a slice from a place on. Each function gives the place behind what it put. Where the slice ends, nothing more is
+// put; the slice of main is longer than any answer.
+use book::Book;
+
+pub(crate) fn byte(out: &mut [u8], at: usize, value: u8) -> usize {
+    if at < out.len() {
+        out[at] = value;
+        return at + 1;
+    }
+    at
+}
+
+pub(crate) fn word(out: &mut [u8], from: usize, word: &[u8]) -> usize {
+    let mut at = from;
+    let mut i = 0;
+    while i < word.len() {
+        at = byte(out, at, word[i]);
+        i += 1;
+    }
+    at
+}
+
+// A number.
+pub(crate) fn decimal(out: &mut [u8], at: usize, n: u64) -> usize {
+    let mut digits = [0u8; 20];
+    let count = io::decimal(n, &mut digits);
+    word(out, at, &digits[..count])
+}
+
+// A number behind a space.
+pub(crate) fn next(out: &mut [u8], at: usize, n: u64) -> usize {
+    let behind = byte(out, at, b' ');
+    decimal(out, behind, n)
+}
+
+// A number behind a comma.
+fn listed(out: &mut [u8], at: usize, n: u64) -> usize {
+    let behind = byte(out, at, b',');
+    decimal(out, behind, n)
+}
+
+pub(crate) fn refusal(out: &mut [u8], number: u8) -> usize {
+    decimal(out, 0, number as u64)
+}
+
+// A record behind a space.
+pub(crate) fn record(out: &mut [u8], at: usize, b: Book) -> usize {
+    let one = next(out, at, b.bound);
+    let two = listed(out, one, b.length);
+    let three = listed(out, two, b.tolerance);
+    let four = listed(out, three, b.carry);
+    let five = listed(out, four, b.phase);
+    let six = listed(out, five, b.kept);
+    listed(out, six, b.head)
+}
+
+fn digit(nibble: u8) -> u8 {
+    if nibble < 10 {
+        return b'0' + nibble;
+    }
+    if nibble < 16 {
+        return b'a' + (nibble - 10);
+    }
+    b'?'
+}
+
+// Bytes as hex behind a space, `-` for none.
+pub(crate) fn bytes(out: &mut [u8], at: usize, s: &[u8]) -> usize {
+    let behind = byte(out, at, b' ');
+    if s.len() == 0 {
+        return byte(out, behind, b'-');
+    }
+    hex(out, behind, s)
+}
+
+fn hex(out: &mut [u8], from: usize, s: &[u8]) -> usize {
+    let mut at = from;
+    let mut i = 0;
+    while i < s.len() {
+        at = pair(out, at, s[i]);
+        i += 1;
+    }
+    at
+}
+
+fn pair(out: &mut [u8], at: usize, value: u8) -> usize {
+    let half = byte(out, at, digit(value / 16));
+    byte(out, half, digit(value % 16))
+}

@@ -1,0 +1,66 @@
+"""Figures worked by hand, as calls and answers: paper 01's cases A to G, and the lines of the vectors' format.
+
+The model is held to them each time the vectors are made.
+"""
+
+import model
+
+A = "5,6,10,13,1,6,0 40"
+
+FORMAT = [
+    ("open 5 6 10 ff", "0 5,6,10,0,0,0,0 00"),
+    ("add 5,6,10,13,1,6,0 40 2", "0 5,6,10,5,0,6,1 c0"),
+    ("total 5,6,10,13,1,6,0 40 5", "0 14"),
+    ("far 5,6,10,13,1,6,0 40 15", "9 0"),
+    ("verdict 5,6,10,13,1,6,0 40 4 18", "0 undecided 9"),
+    ("pgm 50350a322032203235350a00000000", "0 2 2 255 15 11 4"),
+]
+
+CASES = [
+    *((f"total {A} {i}", f"0 {figure}") for i, figure in enumerate([0, 4, 4, 4, 9, 14, 14])),
+    (f"total {A} 7", "5 0"),
+    *((f"far {A} {v}", answer) for v, answer in [(4, "0 1"), (5, "0 4"), (14, "0 5"), (15, "9 0")]),
+    *((f"verdict {A} 4 {v}", f"0 {word} 9") for v, word in [(9, "live"), (10, "undecided"), (18, "undecided"), (19, "frozen")]),
+    ("total 5,6,10,5,0,6,1 c0 6", "0 16"),
+    *((f"total 3,4,2,1,0,4,0 21 {i}", f"0 {figure}") for i, figure in [(1, 2), (2, 2), (3, 6), (4, 6)]),
+    *((f"total 9,3,1,0,0,3,1 2040 {i}", f"0 {figure}") for i, figure in [(1, 2), (2, 6), (3, 6)]),
+    ("open 5 3 15 ff", "0 5,3,15,0,0,0,0 00"),
+    ("open 5 3 16 ff", "3 0,0,0,0,0,0,0 ff"),
+    (f"add {A} 6", f"7 {A}"),
+    ("add 5,6,10,13,1,6,0 - 5", "4 5,6,10,13,1,6,0 -"),
+    ("open 5 6 10 -", "4 0,0,0,0,0,0,0 -"),
+    ("far 5,6,10,0,0,0,0 00 1", "9 0"),
+    ("total 5,6,10,0,0,0,0 00 0", "0 0"),
+    ("total 5,6,10,0,0,0,0 00 1", "5 0"),
+    ("pgm -", "14 0 0 0 0 0 0"),
+    (f"pgm {b'P5 1025 '.hex()}", "12 0 0 0 0 0 0"),
+    (f"pgm {b'P5 1024 '.hex()}", "14 0 0 0 0 0 0"),
+    (f"pgm {b'P5 1 1 256 '.hex()}", "12 0 0 0 0 0 0"),
+    (f"pgm {b'P5 1 1 255 '.hex()}", "14 0 0 0 0 0 0"),
+]
+
+# L, n, D, the items, and the record and ring that they leave.
+LIVES = [
+    (5, 6, 10, [3, 4, 5, 5, 0, 1, 5], "5,6,10,13,1,6,0 40"),
+    (5, 6, 10, [3, 4, 5, 5, 0, 1, 5, 2], "5,6,10,5,0,6,1 c0"),
+    (3, 4, 2, [1, 3, 0, 3], "3,4,2,1,0,4,0 21"),
+    (9, 3, 1, [9, 0, 4, 2], "9,3,1,0,0,3,1 2040"),
+]
+
+
+def after(L, n, D, items):
+    """The record and the ring after the items, as they are written on a line."""
+    _, record, ring = model.open_book(L, n, D, b"\xff" * model.book_bytes(L, n, D))
+    for x in items:
+        _, record, ring = model.add(record, ring, x)
+    return f"{model.show(record)} {model.show(ring)}"
+
+
+def faults():
+    """What the model gets wrong of all this, in words; nothing, it is hoped."""
+    for line, expected in FORMAT + CASES:
+        if model.answer(line) != expected:
+            yield f"{line}: the model answers {model.answer(line)}, worked by hand {expected}"
+    for L, n, D, items, expected in LIVES:
+        if after(L, n, D, items) != expected:
+            yield f"items {items}: the model leaves {after(L, n, D, items)}, worked by hand {expected}"
