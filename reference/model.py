@@ -1,6 +1,6 @@
 """The calls of paper 01, in Python's whole numbers, written from the papers alone.
 
-A sentence in quotes is paper 01's. Every call gives what its answer line holds, first the refusal number, 0 for none;
+Every call gives what its answer line holds, first the refusal number, 0 for none;
 bytes and records that a call may change are given as they are afterwards. Nothing here is fast, and nothing is shared with the
 proved code: where the two differ, the papers decide which is wrong.
 """
@@ -25,12 +25,12 @@ def ceil_div(a, b):
 
 
 def ring_bytes(width, slots):
-    """"ring bytes B = ceil(s·b/8)"."""
+    """B: as many bytes as the fields fill, the last one perhaps in part."""
     return ceil_div(slots * width, 8)
 
 
 def bits_of(ring):
-    """The digits, "counted from the top bit of byte 0 as in a PBM row"."""
+    """The digits one after another, each byte from its top bit down."""
     return "".join(format(byte, "08b") for byte in ring)
 
 
@@ -39,12 +39,12 @@ def bytes_of(bits):
 
 
 def field(width, bits, slot):
-    """"Slot k occupies bits k·b to k·b + b − 1 .. the field's highest digit first"."""
+    """The number in a slot: its own width of digits, the highest first."""
     return int(bits[slot * width : slot * width + width], 2)
 
 
 def newest_fields(width, slots, ring, next_slot, j):
-    """What stands in the j newest slots before the next one, the newest first ("the slot before 0 is the last one")."""
+    """What stands in the j newest slots before the next one, the newest first; behind slot 0 lies the last."""
     bits = bits_of(ring)
     return [field(width, bits, (next_slot - 1 - k) % slots) for k in range(j)]
 
@@ -57,12 +57,12 @@ def with_field(width, ring, slot, value):
 
 
 def cleared(ring, count):
-    """The first B bytes 0 (the bits after the last slot too), "bytes from B on are never touched"."""
+    """The first B bytes 0 (the bits after the last slot too), the others as they were."""
     return bytes(count) + ring[count:]
 
 
 def ring_refusal(width, slots, ring, bad=False):
-    """"The ring's own calls: 10, 4"; bad is what else a call has under 10."""
+    """10, then 4; bad is what else a call has under 10."""
     if not 1 <= width <= LARGEST_WIDTH or not 1 <= slots <= LARGEST_SLOTS or bad:
         return 10
     if len(ring) < ring_bytes(width, slots):
@@ -78,13 +78,13 @@ def ring_clear(width, slots, ring):
 
 
 def ring_read(width, slots, ring, slot):
-    """"a slot number not below the slots" is 10."""
+    """A slot that the ring does not have is 10."""
     refusal = ring_refusal(width, slots, ring, slot >= slots)
     return (refusal, 0) if refusal else (0, field(width, bits_of(ring), slot))
 
 
 def too_large(width, value):
-    """"a value too large for the width"; a width out of its range is 10 by itself, and no power of it is taken."""
+    """Whether the value needs more digits than the width; a width out of its range is 10 by itself, and no power of it is taken."""
     return width <= LARGEST_WIDTH and value >= 2**width
 
 
@@ -94,7 +94,7 @@ def ring_write(width, slots, ring, slot, value):
 
 
 def ring_sum(width, slots, ring, next_slot, j):
-    """"more newest slots asked for than there are" is 10, and so is a next slot that is none."""
+    """To ask for more slots than the ring has is 10, and so is a next slot that is none."""
     refusal = ring_refusal(width, slots, ring, next_slot >= slots or j > slots)
     if refusal:
         return refusal, 0
@@ -105,17 +105,17 @@ def ring_sum(width, slots, ring, next_slot, j):
 
 
 def block_length(L, D):
-    """"block length c = the larger of 1 and floor(D/L)"."""
+    """c: how often L goes into D, and 1 where it does not."""
     return max(1, D // L)
 
 
 def slot_count(L, n, D):
-    """"slots s = ceil(n/c)"."""
+    """s: blocks enough for n items."""
     return ceil_div(n, block_length(L, D))
 
 
 def field_width(L, D):
-    """"largest quotient z = ceil(c·L/D); field width b = how many binary digits z has"."""
+    """b: the binary digits of z, which is c·L by D, rounded up."""
     return ceil_div(block_length(L, D) * L, D).bit_length()
 
 
@@ -124,7 +124,7 @@ def book_bytes(L, n, D):
 
 
 def numbers_refusal(L, n, D):
-    """1, 2, 3: "a bound L (1 to 65,535), a length n (1 to 4,096) and a tolerance D (1 to n·L)"."""
+    """1, 2, 3: the ranges of L, n and D, in this order."""
     if not 1 <= L <= LARGEST_BOUND:
         return 1
     if not 1 <= n <= LARGEST_LENGTH:
@@ -135,7 +135,7 @@ def numbers_refusal(L, n, D):
 
 
 def is_book(r):
-    """Not 8: "L, n or D out of range, kept above n or below p, p ≥ c, head ≥ s, or R above D − 1 + p·L"."""
+    """Not 8: every number of the record where a book can have it."""
     if numbers_refusal(r.L, r.n, r.D):
         return False
     return (
@@ -156,7 +156,7 @@ def book_refusal(r, ring):
 
 
 def open_book(L, n, D, ring):
-    """"Opening: 1, 2, 3, 4, and the record handed back is all zeros"."""
+    """1, 2, 3, 4; a refused opening gives a record of zeros."""
     refusal = numbers_refusal(L, n, D)
     if not refusal and len(ring) < book_bytes(L, n, D):
         refusal = 4
@@ -166,7 +166,7 @@ def open_book(L, n, D, ring):
 
 
 def block_closed(r, ring):
-    """"q = floor(R/D) goes into slot head, R becomes R − q·D, p becomes 0, head moves on by one, from s − 1 to 0"."""
+    """The quotient of R by D is noted in the head's slot, the remainder stays, and the head goes round by one."""
     q = r.R // r.D
     ring = with_field(field_width(r.L, r.D), ring, r.head, q)
     head = (r.head + 1) % slot_count(r.L, r.n, r.D)
@@ -174,7 +174,7 @@ def block_closed(r, ring):
 
 
 def add(r, ring, x):
-    """"Adding: 8, 4, 7"; "R grows by x, p by 1, kept by 1 unless it is n"."""
+    """8, 4, 7; otherwise the item is taken, and a block that it fills is closed."""
     refusal = book_refusal(r, ring)
     if not refusal and x > r.L:
         refusal = 7
@@ -193,7 +193,7 @@ def fields_of(r, ring):
 
 
 def figure(r, fields, i):
-    """"R + D·(sum of the j newest slots) − (D − 1) − e·L·g, or 0 if that is negative"."""
+    """The one figure of a window: j blocks, of whose oldest e items lie outside; g is that block's quotient."""
     c = block_length(r.L, r.D)
     if i <= r.p:
         j, e, g = 0, r.p - i, r.R // r.D
@@ -205,7 +205,7 @@ def figure(r, fields, i):
 
 
 def total(r, ring, i):
-    """"Total: 8, 4, 5; a window of 0 answers 0"."""
+    """8, 4, 5."""
     refusal = book_refusal(r, ring)
     if not refusal and i > r.kept:
         refusal = 5
@@ -215,7 +215,7 @@ def total(r, ring, i):
 
 
 def far(r, ring, v):
-    """"How far back: 8, 4, 6, 9"; "the smallest i from 1 to kept whose figure is at least v"."""
+    """8, 4, 6, 9; each window in turn from the shortest on."""
     refusal = book_refusal(r, ring)
     if not refusal and v == 0:
         refusal = 6
@@ -229,7 +229,7 @@ def far(r, ring, v):
 
 
 def verdict(r, ring, w, v):
-    """"Verdict: 8, 4, 6, 5"; "live if f ≥ v; frozen if f + D − 1 < v; otherwise undecided"."""
+    """8, 4, 6, 5; then the word and the figure."""
     refusal = book_refusal(r, ring)
     if not refusal and (v == 0 or w == 0):
         refusal = 6
@@ -255,14 +255,14 @@ class Refused(Exception):
 
 
 class Header:
-    """"header bytes are taken in order and the first fault decides"."""
+    """A header under way: where its next byte stands."""
 
     def __init__(self, data):
         self.data = data
         self.at = 0
 
     def need(self, allowed):
-        """The next byte: "needing a 24,577th byte is 13, else one beyond the slice is 14, else a wrong byte is 11"."""
+        """The next byte, or why there is none: past the limit, past the slice, or not allowed here."""
         if self.at >= IMAGE_LIMIT:
             raise Refused(13)
         if self.at >= len(self.data):
@@ -274,14 +274,14 @@ class Header:
         return byte
 
     def white_then_digit(self):
-        """"whitespace .. one or more", and the first digit of the number that has to follow."""
+        """White bytes, one at least, and the first digit of the number that has to follow."""
         byte = self.need(WHITE)
         while byte in WHITE:
             byte = self.need(WHITE + DIGITS)
         return byte
 
     def number(self, first, top):
-        """The number and ONE white byte; "a number is judged (12) once the whitespace after it is read"."""
+        """The number and ONE white byte, at which it is judged."""
         value, byte = 0, first
         while byte in DIGITS:
             value = value * 10 + byte - DIGITS[0]
@@ -317,7 +317,7 @@ def read_image(data):
 
 
 def pgm(data):
-    """"A refused read gives numbers 0 and an empty part"."""
+    """The refusal and what was read, all zeros where it is refused."""
     try:
         return (0,) + read_image(data)
     except Refused as fault:
@@ -325,12 +325,12 @@ def pgm(data):
 
 
 def changed(first, second, allowance):
-    """"the number of positions whose pixels differ by more than a"."""
+    """How many pixels differ by more than the allowance."""
     return sum(abs(x - y) > allowance for x, y in zip(first, second))
 
 
 def score(L, a, first, second):
-    """"Score: 1, the first image's, the second's, 16"; "or L if that number is larger"."""
+    """1, then the refusals of each image, then 16; at most L."""
     if not 1 <= L <= LARGEST_BOUND:
         return 1, 0
     for image in (first, second):
@@ -363,7 +363,7 @@ def take_number(text):
 
 
 def take_byte(text):
-    """A score's allowance is "0 to 255, a byte": no refusal is for another, so the line cannot be read."""
+    """A score's allowance is a byte: no refusal is for a larger one, so the line cannot be read."""
     value = take_number(text)
     if value > 255:
         raise Unreadable
