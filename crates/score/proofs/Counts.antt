@@ -4,6 +4,7 @@ use Prim.Native.Nat.{ℕ, zero, suc, _+_, _≤_, _<_}
 use mathlib.Core.Bool.{Bool, true, false, cond}
 use mathlib.Core.Path.{_≡_, refl, ap}
 use native.Mathlib.Omega.{arith}
+use native.Mathlib.Numerals.{add-one}
 use borrow.Author.Tests.{lt-ltb, le-ltb}
 use Rattle.score.specs.Changed.{apart, moved, changed}
 
@@ -33,6 +34,12 @@ module _ (allowance : ℕ) (first second : ℕ → ℕ) where
       → changed allowance first second (suc count) ≡ changed allowance first second count + moved allowance (first count) (second count)
   unfolding changed
   changed-more count = refl
+
+  -- a count from any position on, and one position more
+  pub changed-on : (from count here step : ℕ) → changed allowance first second from + count ≡ changed allowance first second here
+      → step ≡ moved allowance (first here) (second here)
+      → changed allowance first second from + (count + step) ≡ changed allowance first second (here + 1)
+  changed-on from count here step so-far is-step = rw (add-one here, changed-more here) (omega (arith, so-far, is-step))
 
   -- no more positions changed than there are
   pub changed-le : (count : ℕ) → changed allowance first second count ≤ count

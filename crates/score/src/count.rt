@@ -1,6 +1,6 @@
 // Counting the positions that changed.
 ghost use mathlib.Core.Path.{_≡_};
-ghost use Prim.Native.Nat.{_≤_, min};
+ghost use Prim.Native.Nat.{_+_, _≤_, _<_, min};
 ghost use lib.ListN.{length};
 ghost use Rattle.image.specs.Pixels.{pixelBytes, pixelAt};
 ghost use Rattle.score.specs.Changed.{apart, moved, changed};
@@ -12,14 +12,36 @@ fn apart(x: u8, y: u8) -> u8
 }
 
 // 1 for pixels that differ by more than the allowance, else 0.
-fn moved(allowance: u8, x: u8, y: u8) -> u16
+fn moved(allowance: u8, x: u8, y: u8) -> u8
     ensures { λ r. ⌜ r ≡ moved allowance x y ⌝ }
 {
     if allowance < apart(x, y) { 1 } else { 0 }
 }
 
-// The positions at which two rasters of one size changed. One pass with nothing in it but a compare and a sum. The sum has 16 bits,
-// which hold as many positions as an image can have: twice as many of them fit into a vector register as of 32 bits.
+// Where the positions from here on that are counted in one go end.
+fn block_end(from: usize, len: usize) -> usize
+    requires { ⌜ from < len ⌝ }
+    ensures { λ r. ⌜ (from < r) × (r ≤ len) × (r ≤ from + 192) ⌝ }
+{
+    if len - from < 192 { len } else { from + 192 }
+}
+
+// The positions from one place up to another at which two rasters of one size changed. One pass with nothing in it but a compare and
+// a sum; so few positions that 8 bits hold the sum, which lets a vector register take as many of them as it has bytes.
+fn changed_between(first: &[u8], second: &[u8], allowance: u8, from: usize, to: usize) -> u8
+    requires { ⌜ (length (now first) ≡ length (now second)) × (from ≤ to) × (to ≤ length (now first)) × (to ≤ from + 255) ⌝ }
+    ensures { λ r. ⌜ changed allowance (pixelAt pixelBytes (now (first .entry))) (pixelAt pixelBytes (now (second .entry))) from + r ≡ changed allowance (pixelAt pixelBytes (now (first .entry))) (pixelAt pixelBytes (now (second .entry))) to ⌝ }
+{
+    let mut count: u8 = 0;
+    let mut i = from;
+    while i < to {
+        count += moved(allowance, first[i], second[i]);
+        i += 1;
+    }
+    count
+}
+
+// The positions at which two rasters of one size changed, some at a time.
 pub(crate) fn changed(first: &[u8], second: &[u8], allowance: u8) -> u16
     requires { ⌜ (length (now first) ≡ length (now second)) × (length (now first) ≤ 24576) ⌝ }
     ensures { λ r. ⌜ r ≡ changed allowance (pixelAt pixelBytes (now (first .entry))) (pixelAt pixelBytes (now (second .entry))) (length (now (first .entry))) ⌝ }
@@ -27,8 +49,9 @@ pub(crate) fn changed(first: &[u8], second: &[u8], allowance: u8) -> u16
     let mut count: u16 = 0;
     let mut i = 0;
     while i < first.len() {
-        count += moved(allowance, first[i], second[i]);
-        i += 1;
+        let to = block_end(i, first.len());
+        count += changed_between(first, second, allowance, i, to) as u16;
+        i = to;
     }
     count
 }

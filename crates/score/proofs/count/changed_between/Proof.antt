@@ -1,0 +1,75 @@
+-- `score::count::changed_between` meets its contract: at position i the count is that of the positions from `from` up to i, and at most
+-- as many as they are.
+-- Assumes nothing.
+use Prim.Native.Nat.{_+_, _-_, _≤_}
+use mathlib.Core.Path.{_≡_, sym, ap, _∙_}
+use native.Mathlib.Omega.{arith}
+use denote.Ref.{now}
+use Rattle.image.specs.Pixels.{pixelBytes, pixelAt}
+use Rattle.image.proofs.Promises.{pixel-one}
+use Rattle.score.specs.Changed.{moved, changed}
+use Rattle.score.proofs.Counts.{moved-le, changed-on}
+use Rattle.score.proofs.count.changed_between.Statement.{statement}
+use Rattle.score.proofs.count.changed_between.Tie as tie
+
+abbrev Inv-loop : tie.InvT-loop
+Inv-loop first second allowance from to count₀ i₀ count i =
+    (i ≤ to) × (from + count ≤ i)
+    × (changed allowance (pixelAt pixelBytes first) (pixelAt pixelBytes second) from + count
+    ≡ changed allowance (pixelAt pixelBytes first) (pixelAt pixelBytes second) i)
+
+abbrev μ-loop : tie.MeasureT-loop
+μ-loop first second allowance from to count₀ i₀ count i = to - i
+
+one : (c : tie.After-moved Inv-loop μ-loop) → c .moved .result ≤ 1
+one c = rw (c .moved .ensures) (moved-le (c .before .before .before .before .before .before .before .args .allowance) _ _)
+
+loop-holds : tie.Need-loop-holds Inv-loop μ-loop
+loop-holds c = (omega arith, omega arith, omega arith)
+
+shared-slice-read-moved : tie.Need-shared-slice-read-moved Inv-loop μ-loop
+shared-slice-read-moved c = omega arith
+
+shared-slice-read-moved-2 : tie.Need-shared-slice-read-moved-2 Inv-loop μ-loop
+shared-slice-read-moved-2 c = omega arith
+
+moved-requires : tie.Need-moved-requires Inv-loop μ-loop
+moved-requires c κs = tt
+
+add-count : tie.Need-add-count Inv-loop μ-loop
+add-count c = omega (arith, one c)
+
+add-i : tie.Need-add-i Inv-loop μ-loop
+add-i c = omega arith
+
+loop-less : tie.Need-loop-less Inv-loop μ-loop
+loop-less c = omega arith
+
+loop-again : tie.Need-loop-again Inv-loop μ-loop
+loop-again c = let a = c .before .before .before .before .before .before .before .args in let l = c .before .before .before .before .loop in (
+  omega arith,
+  omega (arith, one c),
+  changed-on (a .allowance) (pixelAt pixelBytes (now (a .first))) (pixelAt pixelBytes (now (a .second))) (a .from) (l .count) (l .i) (c .moved .result) (l .inv .2)
+      (rw (pixel-one (now (a .first)) (l .i), pixel-one (now (a .second)) (l .i)) (c .moved .ensures)),
+)
+
+returns : tie.Need-returns Inv-loop μ-loop
+returns c = let a = c .before .before .before .before .args in let l = c .before .loop in
+    let all : l .i ≡ a .to = omega arith in
+    l .inv .2 ∙ ap (changed (a .allowance) (pixelAt pixelBytes (now (a .first))) (pixelAt pixelBytes (now (a .second)))) all
+
+pub changed-between-spec : {M : Type 1} → statement M
+changed-between-spec =
+    tie.close
+    (tie.spec
+    Inv-loop
+    μ-loop
+    loop-holds
+    shared-slice-read-moved
+    shared-slice-read-moved-2
+    moved-requires
+    add-count
+    add-i
+    loop-less
+    loop-again
+    returns)
