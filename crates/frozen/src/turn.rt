@@ -1,10 +1,7 @@
-// One turn of the program: what the bytes at hand lead to is decided by watch; its row goes into a buffer, which is written when it is
-// full and before the program reads.
+// One turn of the program: what the bytes at hand lead to, and its row, are those of watch; the row goes into a buffer, which is
+// written when it is full and before the program reads.
 ghost use Prim.Native.Nat.{_≤_};
 ghost use lib.ListN.{length};
-use rows::Scored;
-use rows::Word;
-use watch::Line;
 use watch::State;
 use watch::Turn;
 
@@ -83,30 +80,7 @@ fn behind(at: usize, used: usize, end: usize) -> usize {
     end
 }
 
-fn refused(out: &mut [u8], full: usize, frames: u64, refusal: u8) -> usize {
-    let at = place(out, full);
-    let frame = watch::frame_after(frames);
-    let n = rows::refused(&mut out[at..], frame, refusal);
-    behind(at, n, out.len())
-}
-
-fn row(out: &mut [u8], full: usize, line: Line) -> usize {
-    let at = place(out, full);
-    let state = line.state;
-    let b = state.book;
-    let scored = line.scored;
-    let word = line.word;
-    let n = rows::row(
-        &mut out[at..],
-        state.frames,
-        scored,
-        b.kept,
-        line.total,
-        word,
-    );
-    behind(at, n, out.len())
-}
-
+// Takes one turn.
 pub(crate) fn take(
     next: Next,
     ring: &mut [u8],
@@ -126,10 +100,20 @@ pub(crate) fn take(
     if buf.len() < end {
         return ended(next, next.full, 2);
     }
+    let place = place(out, next.full);
     let state = next.state;
-    match watch::decide(state, ring, &buf[from..at], &buf[at..end], over) {
+    let stepped = watch::step(
+        state,
+        ring,
+        &buf[from..at],
+        &buf[at..end],
+        over,
+        &mut out[place..],
+    );
+    let full = behind(place, stepped.wrote, out.len());
+    let turn = stepped.turn;
+    match turn {
         Turn::Row(line) => {
-            let full = row(out, next.full, line);
             let after = line.state;
             Next {
                 state: after,
@@ -139,11 +123,8 @@ pub(crate) fn take(
                 go: 0,
             }
         }
-        Turn::Refused(refusal) => {
-            let full = refused(out, next.full, state.frames, refusal);
-            ended(next, full, 2)
-        }
-        Turn::Ends => ended(next, next.full, 2),
-        Turn::Wait => ended(next, next.full, 1),
+        Turn::Refused(_) => ended(next, full, 2),
+        Turn::Ends => ended(next, full, 2),
+        Turn::Wait => ended(next, full, 1),
     }
 }

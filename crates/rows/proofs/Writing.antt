@@ -3,8 +3,10 @@
 use Prim.Native.Nat.{ℕ, zero, suc, _+_, _≤_, _<_}
 use native.Mathlib.Nat.{add-zero, add-suc, suc-add}
 use native.Mathlib.Omega.{arith}
+use mathlib.Core.Bool.{Bool, true, false, cond}
 use mathlib.Core.List.{List, [], _∷_, _++_}
 use mathlib.Core.Path.{_≡_, refl, sym, ap, _∙_}
+use lib.Dec.{ltb}
 use lib.ListN.{length, set, take, getD, length-append}
 use lib.Seq.{sets, length-sets, take-suc}
 use borrow.Author.Tests.{lt-ltb, le-ltb}
@@ -45,3 +47,12 @@ pub line-written : (out line : List ℕ) {new : List ℕ} {next : ℕ} → 96 �
 unfolding lineLength lineInto
 line-written out line h w =
     (rw (le-ltb (length out) 96 h) (omega (arith, w .moved)), rw (le-ltb (length out) 96 h) (w .bytes))
+
+-- nothing to write leaves the buffer as it is
+pub line-empty : (out : List ℕ) → (_≡_ {A = ℕ} 0 (lineLength out [])) × (out ≡ lineInto out [])
+unfolding lineLength lineInto
+line-empty out = by (ltb (length out) 96)
+  where
+    by : (small : Bool) → (_≡_ {A = ℕ} 0 (cond small 0 0)) × (out ≡ cond small out out)
+    by true = (refl, refl)
+    by false = (refl, refl)

@@ -1,4 +1,5 @@
 pub mod Deciding
+pub mod Saying
 pub mod Unique
 pub mod Streaming
 pub mod Whole

@@ -18,7 +18,7 @@ use Rattle.watch.specs.declared.Turn.{Turn}
 use Rattle.watch.specs.declared.Turn.the-variants.{Row, Refused, Ends, Wait}
 use Rattle.rows.specs.Row.{headText}
 use Rattle.watch.specs.Turn.{frameAfter, started, startedRing, decidedOf, decidedRing, turnOf, turnRing}
-use Rattle.watch.specs.Output.{textOf, thenRows, rowsFrom, noBytes, outputOf, Runs, begins, reads, turns}
+use Rattle.watch.specs.Output.{textOf, stepText, thenRows, rowsFrom, noBytes, outputOf, Runs, begins, reads, turns}
 use Rattle.watch.proofs.Streaming.{Decides, row-decides, turn-decides, decided-used}
 
 -- an accepted image takes a byte at least
@@ -70,7 +70,7 @@ over-decided state ring last rest line = by (eqb (length rest) 0)
 -- more turns than there are bytes change nothing
 rows-enough : (f g : ℕ) (state : State) (ring last rest : List ℕ) → length rest < f → length rest < g
     → rowsFrom f state ring last rest ≡ rowsFrom g state ring last rest
-unfolding rowsFrom
+unfolding rowsFrom stepText
 rows-enough zero g state ring last rest hf hg = absurd (omega arith)
 rows-enough (suc f) zero state ring last rest hf hg = absurd (omega arith)
 rows-enough (suc f) (suc g) state ring last rest hf hg =
@@ -98,7 +98,7 @@ row-first : (n : ℕ) (state : State) (ring last hand more : List ℕ) (line : L
     → rowsFrom (suc n) state ring last (hand ++ more)
     ≡ textOf (frameAfter (state .frames)) (Row line)
     ++ rowsFrom n (line .state) (turnRing state ring last hand false) (take (line .used) hand) (drop (line .used) hand ++ more)
-unfolding rowsFrom
+unfolding rowsFrom stepText
 row-first n state ring last hand more line row =
     let there : line .used ≤ length hand = used-there state ring last hand more line row in
     rw (
@@ -111,7 +111,7 @@ row-first n state ring last hand more line row =
 -- at each moment of a run: what is written, and the rows of all that is to come, is the output of the whole input
 pub runs-right : (input written : List ℕ) (state : State) (ring last hand unread : List ℕ) → Runs input written state ring last hand unread
     → (f : ℕ) → length (hand ++ unread) < f → written ++ rowsFrom f state ring last (hand ++ unread) ≡ outputOf input
-unfolding outputOf rowsFrom
+unfolding outputOf rowsFrom stepText
 runs-right input written state ring last hand unread begins f h =
     ap (λ (l : List ℕ). headText ++ l)
     (rows-enough f (suc (length input)) (started noBytes) (startedRing noBytes) [] input h (omega arith))
@@ -122,7 +122,8 @@ runs-right input written state ring last hand unread (turns w s r l before after
     let there : line .used ≤ length before = used-there s r l before after line row in
     let left : length (drop (line .used) before ++ after) ≡ length before - line .used + length after =
     length-append (drop (line .used) before) after ∙ ap (λ (k : ℕ). k + length after) (length-drop (line .used) before) in
-    append-assoc w (textOf (frameAfter (s .frames)) (Row line)) _
+    ap (λ (t : Turn). (w ++ textOf (frameAfter (s .frames)) t) ++ rowsFrom f (line .state) (turnRing s r l before false) (take (line .used) before) (drop (line .used) before ++ after)) row
+    ∙ append-assoc w (textOf (frameAfter (s .frames)) (Row line)) _
     ∙ ap (λ (t : List ℕ). w ++ (textOf (frameAfter (s .frames)) (Row line) ++ t))
     (rows-enough f n (line .state) (turnRing s r l before false) (take (line .used) before) (drop (line .used) before ++ after) h (omega arith))
     ∙ ap (λ (t : List ℕ). w ++ t) (sym (row-first n s r l before after line row))
@@ -131,15 +132,15 @@ runs-right input written state ring last hand unread (turns w s r l before after
 -- AT THE END of the input the last turn is no row, and what it writes completes the output
 pub end-right : (input written : List ℕ) (state : State) (ring last hand : List ℕ) → Runs input written state ring last hand []
     → ((line : Line) → turnOf state ring last hand true ≡ Row line → ⊥)
-    → written ++ textOf (frameAfter (state .frames)) (turnOf state ring last hand true) ≡ outputOf input
-unfolding rowsFrom
+    → written ++ stepText state ring last hand true ≡ outputOf input
+unfolding rowsFrom stepText
 end-right input written state ring last hand run none =
     sym (ap (λ (t : List ℕ). written ++ t) (by (turnOf state ring last hand true) refl))
     ∙ ap (λ (l : List ℕ). written ++ rowsFrom (suc (length hand)) state ring last l) (sym (append-nil hand))
     ∙ runs-right input written state ring last hand [] run (suc (length hand)) (rw (append-nil hand) (omega arith))
   where
     by : (t : Turn) → turnOf state ring last hand true ≡ t
-        → rowsFrom (suc (length hand)) state ring last hand ≡ textOf (frameAfter (state .frames)) (turnOf state ring last hand true)
+        → rowsFrom (suc (length hand)) state ring last hand ≡ stepText state ring last hand true
     by (Row line) e = absurd (none line e)
     by (Refused refusal) e = rw e (append-nil (textOf (frameAfter (state .frames)) (Refused refusal)))
     by Ends e = rw e

@@ -4,10 +4,11 @@ use mathlib.Core.Bool.{Bool, true, false}
 use mathlib.Core.List.{List, [], _∷_, _++_}
 use mathlib.Core.Path.{_≡_}
 use lib.ListN.{length, take, drop, replicate}
-use Rattle.rows.specs.Row.{headText, rowText, refusedText}
+use Rattle.rows.specs.Row.{headText, rowText, refusedText, lineLength}
 use Rattle.watch.specs.declared.State.{State}
 use Rattle.watch.specs.declared.Line.{Line}
 use Rattle.watch.specs.declared.Turn.{Turn}
+use Rattle.watch.specs.declared.Stepped.{Stepped}
 use Rattle.watch.specs.declared.Turn.the-variants.{Row, Refused, Ends, Wait}
 use Rattle.watch.specs.Turn.{frameAfter, started, startedRing, turnOf, turnRing}
 
@@ -17,6 +18,15 @@ textOf frame (Row line) = rowText frame (line .scored) (line .state .book .kept)
 textOf frame (Refused refusal) = refusedText frame refusal
 textOf frame Ends = []
 textOf frame Wait = []
+
+-- what a step writes: the row of its turn, for the frame behind those that have come
+unfoldable pub stepText : State → List ℕ → List ℕ → List ℕ → Bool → List ℕ
+stepText state ring last rest over = textOf (frameAfter (state .frames)) (turnOf state ring last rest over)
+
+-- and what it gives: the turn, and how many bytes of the row the lent buffer took
+unfoldable pub stepOf : State → List ℕ → List ℕ → List ℕ → Bool → List ℕ → Stepped
+stepOf state ring last rest over out =
+    record { turn = turnOf state ring last rest over; wrote = lineLength out (stepText state ring last rest over) }
 
 -- what follows a turn: the rows of the rest after a row, and nothing after anything else
 abbrev pub thenRows : Turn → (Line → List ℕ) → List ℕ
@@ -31,7 +41,7 @@ unfoldable pub rowsFrom : ℕ → State → List ℕ → List ℕ → List ℕ �
 rowsFrom zero state ring last rest = []
 rowsFrom (suc turns) state ring last rest =
     let turn = turnOf state ring last rest true in
-    textOf (frameAfter (state .frames)) turn
+    stepText state ring last rest true
     ++ thenRows turn (λ line.
     rowsFrom turns (line .state) (turnRing state ring last rest true) (take (line .used) rest) (drop (line .used) rest))
 
@@ -51,5 +61,5 @@ pub data Runs (input : List ℕ) : List ℕ → State → List ℕ → List ℕ 
       → Runs input written state ring last hand (piece ++ unread) → Runs input written state ring last (hand ++ piece) unread
   turns : (written : List ℕ) (state : State) (ring last hand unread : List ℕ) → Runs input written state ring last hand unread
       → (line : Line) → turnOf state ring last hand false ≡ Row line
-      → Runs input (written ++ textOf (frameAfter (state .frames)) (Row line)) (line .state) (turnRing state ring last hand false)
+      → Runs input (written ++ stepText state ring last hand false) (line .state) (turnRing state ring last hand false)
       (take (line .used) hand) (drop (line .used) hand) unread

@@ -1,11 +1,14 @@
 // What a frame leads to: the score against the frame before it goes into the book, and a row tells what the book now says.
-// A turn decides and writes nothing; what it decides and leaves is defined in specs/Turn.antt, the whole output in specs/Output.antt.
+// What a turn decides and leaves is defined in specs/Turn.antt; its row, and the whole output, in specs/Output.antt.
 ghost use mathlib.Core.Path.{_≡_};
-ghost use Rattle.watch.specs.Turn.{frameAfter, started, startedRing, turnOf, turnRing};
+ghost use Rattle.rows.specs.Row.{lineInto};
+ghost use Rattle.watch.specs.Turn.{started, startedRing, turnOf, turnRing};
+ghost use Rattle.watch.specs.Output.{stepOf, stepText};
 use book::Book;
 use rows::Scored;
 use rows::Word;
 
+mod say;
 mod turns;
 
 // The book, and how many frames have come.
@@ -31,6 +34,12 @@ pub enum Turn {
     Wait,
 }
 
+// What a step gives: its turn, and how many bytes of its row were written.
+pub struct Stepped {
+    pub turn: Turn,
+    pub wrote: usize,
+}
+
 // Opens the book of the setting in a lent ring.
 pub fn start(ring: &mut [u8]) -> State
     ensures { λ r. ⌜ (r ≡ started (now (ring .entry))) × (now (ring .exit) ≡ startedRing (now (ring .entry))) ⌝ }
@@ -40,15 +49,26 @@ pub fn start(ring: &mut [u8]) -> State
     State { book: b, frames: 0 }
 }
 
-// The number of the frame that comes after so many.
-pub fn frame_after(frames: u64) -> u64
-    ensures { λ r. ⌜ r ≡ frameAfter frames ⌝ }
+// One turn: `last` is the image of the frame before, `rest` the bytes behind it, and `over` says that no more will come. The row goes
+// to the start of `out`, which is to have 96 bytes at least; a smaller one stays as it is.
+pub fn step(
+    state: State,
+    ring: &mut [u8],
+    last: &[u8],
+    rest: &[u8],
+    over: bool,
+    out: &mut [u8],
+) -> Stepped
+    ensures { λ r. ⌜ (r ≡ stepOf state (now (ring .entry)) (now (last .entry)) (now (rest .entry)) over (now (out .entry))) × (now (ring .exit) ≡ turnRing state (now (ring .entry)) (now (last .entry)) (now (rest .entry)) over) × (now (out .exit) ≡ lineInto (now (out .entry)) (stepText state (now (ring .entry)) (now (last .entry)) (now (rest .entry)) over)) ⌝ }
 {
-    turns::one_more(frames)
+    let turn = decide(state, ring, last, rest, over);
+    let frame = turns::one_more(state.frames);
+    let wrote = say::turn(frame, turn, out);
+    Stepped { turn, wrote }
 }
 
-// Decides one turn: `last` is the image of the frame before, `rest` the bytes behind it, and `over` says that no more will come.
-pub fn decide(state: State, ring: &mut [u8], last: &[u8], rest: &[u8], over: bool) -> Turn
+// What the bytes at hand lead to; nothing is written yet.
+fn decide(state: State, ring: &mut [u8], last: &[u8], rest: &[u8], over: bool) -> Turn
     ensures { λ r. ⌜ (r ≡ turnOf state (now (ring .entry)) (now (last .entry)) (now (rest .entry)) over) × (now (ring .exit) ≡ turnRing state (now (ring .entry)) (now (last .entry)) (now (rest .entry)) over) ⌝ }
 {
     if rest.len() == 0 {
