@@ -28,3 +28,14 @@ refusalIn (Refused refusal) = refusal
 abbrev pub valueIn : Ruling → ℕ
 valueIn (Told verdict) = figureIn verdict
 valueIn (Refused refusal) = 0
+
+-- a verdict as a number: 1 live, 2 frozen, 3 undecided …
+abbrev pub verdictNumber : Verdict → ℕ
+verdictNumber (Live figure) = 1
+verdictNumber (Frozen figure) = 2
+verdictNumber (Undecided figure) = 3
+
+-- … and 0 where there is none
+abbrev pub rulingNumber : Ruling → ℕ
+rulingNumber (Told verdict) = verdictNumber verdict
+rulingNumber (Refused refusal) = 0

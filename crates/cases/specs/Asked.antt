@@ -3,12 +3,8 @@ use Prim.Native.Nat.{ℕ, zero, suc}
 use mathlib.Core.List.{List, [], _∷_, _++_}
 use lib.ListN.{length}
 use Rattle.book.specs.declared.Book.{Book}
-use Rattle.book.specs.declared.verdicts.Verdict.{Verdict}
-use Rattle.book.specs.declared.verdicts.Verdict.the-variants.{Live, Frozen, Undecided}
-use Rattle.book.specs.declared.verdicts.Ruling.{Ruling}
-use Rattle.book.specs.declared.verdicts.Ruling.the-variants.{Told, Refused}
 use Rattle.book.specs.Derived.{blockLength, slotCount, largestQuotient, fieldWidth, bytesNeeded}
-use Rattle.book.specs.Verdict.{refusalIn, valueIn}
+use Rattle.book.specs.Verdict.{refusalIn, rulingNumber, valueIn}
 use Rattle.book.specs.Calls.{openAnswer, openBytes, addAnswer, addBytes, totalAnswer, farAnswer, verdictAnswer}
 use Rattle.demands.specs.History.{trueTotal}
 
@@ -45,16 +41,6 @@ stateOf h =
 abbrev pub reversed : List ℕ → List ℕ → List ℕ
 reversed [] done = done
 reversed (item ∷ later) done = reversed later (item ∷ done)
-
--- a verdict as a number: 1 live, 2 frozen, 3 undecided; 0 at a refusal
-abbrev pub verdictNumber : Verdict → ℕ
-verdictNumber (Live figure) = 1
-verdictNumber (Frozen figure) = 2
-verdictNumber (Undecided figure) = 3
-
-abbrev pub rulingNumber : Ruling → ℕ
-rulingNumber (Told verdict) = verdictNumber verdict
-rulingNumber (Refused refusal) = 0
 
 pub data Asked : Type 0 where
   -- c, s, z, b, B

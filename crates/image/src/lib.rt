@@ -9,6 +9,7 @@ mod fields;
 mod pixels;
 
 // The numbers of an image: the raster lies in the bytes from `start` up to `used`. With a refusal all others are 0.
+#[repr(C)]
 pub struct Numbers {
     pub refusal: u8,
     pub width: usize,

@@ -9,6 +9,7 @@ mod slot;
 mod word;
 
 // A number, or a refusal with the number 0.
+#[repr(C)]
 pub struct Answer {
     pub refusal: u8,
     pub value: u64,

@@ -7,6 +7,7 @@ mod count;
 mod judge;
 
 // A number, or a refusal with the number 0.
+#[repr(C)]
 pub struct Answer {
     pub refusal: u8,
     pub value: u64,

@@ -1,0 +1,297 @@
+//! Millions of calls, random and adversarial, on both sides; any difference in an answer, a refusal or a lent byte ends the run.
+//!
+//!     differ [ROUNDS]    each round makes one call of each kind (default 1,000,000)
+
+use bench::chance::Chance;
+use bench::plain::book::{Book, Verdict};
+use bench::plain::{image, ring, score, Refusal};
+use bench::proved;
+
+/// How many calls of a kind came out with which refusal; 0 for none.
+struct Tally {
+    name: &'static str,
+    counts: [u64; 17],
+}
+
+fn same<T: PartialEq + std::fmt::Debug>(tally: &mut Tally, refusal: u8, plain: T, proved: T, call: impl Fn() -> String) {
+    if plain != proved {
+        println!("{}: plain {plain:?}, proved {proved:?}\n{}", tally.name, call());
+        std::process::exit(1);
+    }
+    tally.counts[refusal as usize] += 1;
+}
+
+fn number(result: Result<u64, Refusal>) -> proved::Answer {
+    match result {
+        Ok(value) => proved::Answer { refusal: 0, value },
+        Err(refusal) => proved::Answer { refusal: refusal as u8, value: 0 },
+    }
+}
+
+fn refusal_of(result: Result<(), Refusal>) -> u8 {
+    result.map_or_else(|refusal| refusal as u8, |()| 0)
+}
+
+fn crossed(book: Book) -> proved::Book {
+    let Book { bound, length, tolerance, carry, phase, kept, head } = book;
+    proved::Book { bound, length, tolerance, carry, phase, kept, head }
+}
+
+/// A number at or beside a limit, or anywhere up to it, or anything at all.
+fn near(chance: &mut Chance, limit: u64) -> u64 {
+    match chance.below(16) {
+        0 => 0,
+        1 => 1,
+        2 => limit,
+        3 => limit.wrapping_add(1),
+        4 => limit.wrapping_sub(1),
+        5 if chance.one_in(4) => chance.next(),
+        6 if chance.one_in(4) => u64::MAX,
+        7 => 1 << chance.below(64).min(u64::from(64 - limit.leading_zeros())),
+        8 | 9 => chance.below(limit.min(20).wrapping_add(1).max(1)),
+        _ => chance.below(limit.wrapping_add(1).max(1)),
+    }
+}
+
+fn slots_call(chance: &mut Chance, t: &mut [Tally]) {
+    let width = near(chance, 16) as usize;
+    let slots = near(chance, 4096) as usize;
+    let bytes = if width <= 17 && slots <= 5000 { (width * slots).div_ceil(8) } else { 8 };
+    let lent = match chance.below(4) {
+        0 => bytes,
+        1 => bytes.saturating_sub(1),
+        2 => bytes + chance.below(9) as usize,
+        _ => chance.below(64) as usize,
+    };
+    let bytes = chance.bytes(lent);
+    let slot = near(chance, slots as u64) as usize;
+    let newest = near(chance, slots as u64) as usize;
+    let value = near(chance, if width < 64 { (1 << width) - 1 } else { 1 });
+    let call = || format!("width {width}, slots {slots}, slot or next {slot}, newest {newest}, value {value}, ring {bytes:02x?}");
+
+    let (mut a, mut b) = (bytes.clone(), bytes.clone());
+    let (p, q) = (refusal_of(ring::clear(width, slots, &mut a)), proved::ring_clear(width, slots, &mut b));
+    same(&mut t[0], p, (p, a), (q, b), call);
+    let (p, q) = (number(ring::read(width, slots, &bytes, slot)), proved::ring_read(width, slots, &bytes, slot));
+    same(&mut t[1], p.refusal, p, q, call);
+    let (mut a, mut b) = (bytes.clone(), bytes.clone());
+    let p = refusal_of(ring::write(width, slots, &mut a, slot, value));
+    let q = proved::ring_write(width, slots, &mut b, slot, value);
+    same(&mut t[2], p, (p, a), (q, b), call);
+    let p = number(ring::sum(width, slots, &bytes, slot, newest));
+    let q = proved::ring_sum(width, slots, &bytes, slot, newest);
+    same(&mut t[3], p.refusal, p, q, call);
+}
+
+/// L, n and D, good ones for the most part.
+fn setting(chance: &mut Chance) -> (u64, u64, u64) {
+    let bound = if chance.one_in(2) { near(chance, 65535) } else { near(chance, 40) };
+    let length = if chance.one_in(2) { near(chance, 4096) } else { near(chance, 30) };
+    let most = match chance.below(3) {
+        0 => bound.wrapping_mul(length),
+        1 => bound,
+        _ => bound.wrapping_mul(1 + chance.below(8)),
+    };
+    (bound, length, near(chance, most))
+}
+
+/// How many bytes a ring of these numbers takes, or a few where they are out of range.
+fn ring_bytes(bound: u64, length: u64, tolerance: u64) -> usize {
+    if !(1..=65536).contains(&bound) || !(1..=4097).contains(&length) || tolerance == 0 {
+        return 4;
+    }
+    let block = (tolerance / bound).max(1);
+    let width = u64::BITS - (block * bound).div_ceil(tolerance).leading_zeros();
+    (length.div_ceil(block) * u64::from(width)).div_ceil(8) as usize
+}
+
+fn lent(chance: &mut Chance, bytes: usize) -> Vec<u8> {
+    let bytes = match chance.below(16) {
+        0 => bytes.saturating_sub(1),
+        1 => bytes + 3,
+        2 => chance.below(bytes as u64 + 1) as usize,
+        _ => bytes,
+    };
+    chance.bytes(bytes)
+}
+
+/// A record with its ring: from a good start in half of the cases, made up in the others.
+fn state(chance: &mut Chance) -> (Book, Vec<u8>) {
+    let (bound, length, tolerance) = setting(chance);
+    let mut ring = lent(chance, ring_bytes(bound, length, tolerance));
+    if chance.one_in(2) {
+        if let Ok(mut book) = Book::open(bound, length, tolerance, &mut ring) {
+            let calm = chance.one_in(4);
+            for _ in 0..chance.below(2 * length.min(50) + 1) {
+                let item = if calm && !chance.one_in(8) { 0 } else { chance.below(bound + 1) };
+                book.add(&mut ring, item).expect("the item is within the bound");
+            }
+            return (book, ring);
+        }
+    }
+    let block = tolerance.checked_div(bound).unwrap_or(1).max(1);
+    let kept = near(chance, length);
+    let phase = near(chance, kept.min(block - 1));
+    let most = tolerance.wrapping_sub(1).wrapping_add(phase.wrapping_mul(bound));
+    let head = near(chance, length.div_ceil(block).wrapping_sub(1));
+    (Book { bound, length, tolerance, carry: near(chance, most), phase, kept, head }, ring)
+}
+
+fn opened(result: Result<Book, Refusal>) -> proved::Updated {
+    match result {
+        Ok(book) => proved::Updated { refusal: 0, book: crossed(book) },
+        Err(refusal) => proved::Updated { refusal: refusal as u8, book: proved::Book::default() },
+    }
+}
+
+fn ruled(result: Result<(Verdict, u64), Refusal>) -> proved::Ruled {
+    match result {
+        Ok((verdict, figure)) => proved::Ruled { refusal: 0, verdict: verdict as u8 + 1, figure },
+        Err(refusal) => proved::Ruled { refusal: refusal as u8, verdict: 0, figure: 0 },
+    }
+}
+
+fn open_call(chance: &mut Chance, t: &mut Tally) {
+    let (bound, length, tolerance) = setting(chance);
+    let bytes = lent(chance, ring_bytes(bound, length, tolerance));
+    let (mut a, mut b) = (bytes.clone(), bytes.clone());
+    let p = opened(Book::open(bound, length, tolerance, &mut a));
+    let q = proved::open(bound, length, tolerance, &mut b);
+    same(t, p.refusal, (p, a), (q, b), || format!("{bound} {length} {tolerance}, ring {bytes:02x?}"));
+}
+
+fn book_calls(chance: &mut Chance, t: &mut [Tally]) {
+    let (book, bytes) = state(chance);
+    let item = near(chance, book.bound);
+    let window = near(chance, book.kept);
+    let held = book.total(&bytes, book.kept).unwrap_or(10);
+    let amount = near(chance, held);
+    let record = crossed(book);
+    let call = || format!("{book:?}, item {item}, window {window}, amount {amount}, ring {bytes:02x?}");
+
+    let (mut a, mut b, mut next) = (bytes.clone(), bytes.clone(), book);
+    let p = refusal_of(next.add(&mut a, item));
+    let p = proved::Updated { refusal: p, book: crossed(next) };
+    let q = proved::add(record, &mut b, item);
+    same(&mut t[0], p.refusal, (p, a), (q, b), call);
+    let (p, q) = (number(book.total(&bytes, window)), proved::total(record, &bytes, window));
+    same(&mut t[1], p.refusal, p, q, call);
+    let (p, q) = (number(book.far(&bytes, amount)), proved::far(record, &bytes, amount));
+    same(&mut t[2], p.refusal, p, q, call);
+    let (p, q) = (ruled(book.verdict(&bytes, window, amount)), proved::verdict(record, &bytes, window, amount));
+    same(&mut t[3], p.refusal, p, q, call);
+}
+
+fn whites(chance: &mut Chance, into: &mut Vec<u8>) {
+    for _ in 0..1 + chance.below(3) * chance.below(2) {
+        into.push(chance.pick(b" \t\r\n"));
+    }
+}
+
+fn numeral(chance: &mut Chance, into: &mut Vec<u8>, value: u64) {
+    for _ in 0..chance.below(4) * chance.below(2) {
+        into.push(b'0');
+    }
+    into.extend(value.to_string().bytes());
+}
+
+/// An image with these numbers, changed pixels of `like` where it has as many.
+fn picture(chance: &mut Chance, width: u64, height: u64, maxval: u64, like: &[u8]) -> Vec<u8> {
+    let mut image = b"P5".to_vec();
+    whites(chance, &mut image);
+    numeral(chance, &mut image, width);
+    whites(chance, &mut image);
+    numeral(chance, &mut image, height);
+    whites(chance, &mut image);
+    numeral(chance, &mut image, maxval);
+    if chance.one_in(500) {
+        // a header that comes to the limit
+        let zeros = 24576 - 8 + chance.below(16) as usize;
+        image.splice(3..3, std::iter::repeat(b'0').take(zeros));
+    }
+    image.push(chance.pick(b" \t\r\n"));
+    let size = width.saturating_mul(height).min(26_000) as usize;
+    let above = if chance.one_in(16) { 256 } else { maxval.min(255) + 1 };
+    let still = chance.one_in(2);
+    for i in 0..size {
+        let old = like.len().checked_sub(size).map(|skip| like[skip + i]);
+        image.push(match old {
+            Some(byte) if still || chance.one_in(2) => byte,
+            _ => chance.below(above) as u8,
+        });
+    }
+    image
+}
+
+fn damage(chance: &mut Chance, image: &mut Vec<u8>) {
+    match chance.below(8) {
+        0 => image.truncate(chance.below(image.len() as u64 + 1) as usize),
+        1 => {
+            let at = chance.below(20).min(image.len() as u64 - 1) as usize;
+            image[at] = chance.pick(b"#P56 0\n\x0c\x0b\x00\xff9");
+        }
+        2 => image.extend(chance.bytes(5)),
+        3 => {
+            let at = chance.below(12).min(image.len() as u64 - 1) as usize;
+            image.insert(at, chance.pick(b"# 0159\n"));
+        }
+        _ => {}
+    }
+}
+
+fn image_calls(chance: &mut Chance, t: &mut [Tally]) {
+    let large = chance.one_in(200);
+    let width = if large { near(chance, 1024) } else { near(chance, 12) };
+    let height = if large { near(chance, 24560 / width.max(1)) } else { near(chance, 12) };
+    let maxval = if chance.one_in(2) { near(chance, 255) } else { 255 };
+    let mut first = picture(chance, width, height, maxval, &[]);
+    let other = if chance.one_in(8) { width + 1 } else { width };
+    let mut second = picture(chance, other, height, maxval, &first);
+    damage(chance, &mut first);
+    damage(chance, &mut second);
+    let bound = if chance.one_in(2) { near(chance, 65535) } else { near(chance, 40) };
+    let allowance = chance.pick(&[0, 1, 12, 254, 255, 100]);
+    let call = || format!("bound {bound}, allowance {allowance}, {first:02x?}, {second:02x?}");
+
+    let result = image::header(&first);
+    let (p, place) = match result {
+        Ok(image) => {
+            let image::Image { width, height, maxval, used, raster } = image;
+            let start = used - raster.len();
+            let inside = raster.as_ptr() == first[start..].as_ptr();
+            assert!(inside, "the plain raster is a part of the slice");
+            let place = proved::RasterPlace { refusal: 0, offset: start, length: raster.len() };
+            (proved::Numbers { refusal: 0, width, height, maxval, start, used }, place)
+        }
+        Err(refusal) => {
+            let refusal = refusal as u8;
+            let place = proved::RasterPlace { refusal, offset: 0, length: 0 };
+            (proved::Numbers { refusal, ..Default::default() }, place)
+        }
+    };
+    same(&mut t[0], p.refusal, p, proved::header(&first), call);
+    same(&mut t[1], p.refusal, place, proved::raster(&first), call);
+    let p = number(score::score(bound, allowance, &first, &second));
+    same(&mut t[2], p.refusal, p, proved::score(bound, allowance, &first, &second), call);
+}
+
+fn main() {
+    let rounds: u64 = std::env::args().nth(1).map_or(1_000_000, |n| n.parse().expect("a number of rounds"));
+    let names = [
+        "ring_clear", "ring_read", "ring_write", "ring_sum", "open", "add", "total", "far", "verdict", "header", "raster", "score",
+    ];
+    let mut tallies = names.map(|name| Tally { name, counts: [0; 17] });
+    let mut chance = Chance::new(2026);
+    for _ in 0..rounds {
+        slots_call(&mut chance, &mut tallies[0..4]);
+        open_call(&mut chance, &mut tallies[4]);
+        book_calls(&mut chance, &mut tallies[5..9]);
+        image_calls(&mut chance, &mut tallies[9..12]);
+    }
+    println!("{} calls on both sides, no difference; how many with which refusal:", rounds * names.len() as u64);
+    for tally in &tallies {
+        let counts = tally.counts.iter().enumerate().filter(|(_, &n)| n > 0);
+        let counts: Vec<String> = counts.map(|(refusal, n)| format!("{refusal}: {n}")).collect();
+        println!("{:10}  {}", tally.name, counts.join(", "));
+    }
+}

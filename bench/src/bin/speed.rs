@@ -1,0 +1,103 @@
+//! Times both sides of each call, turn about, and the two programs `frozen`; prints the ratios as a table.
+//!
+//!     speed PROVED_FROZEN PLAIN_FROZEN
+
+use bench::cases::{self, Case};
+use bench::chance::Chance;
+use std::fs::File;
+use std::io::Write;
+use std::process::{Command, Stdio};
+use std::time::{Duration, Instant};
+
+const PAIRS: usize = 101;
+const PROGRAM_PAIRS: usize = 15;
+
+fn timed(work: impl FnOnce()) -> f64 {
+    let begin = Instant::now();
+    work();
+    begin.elapsed().as_secs_f64()
+}
+
+/// The median with the first and the last quarter's bound.
+fn quarters(mut values: Vec<f64>) -> (f64, f64, f64) {
+    values.sort_by(f64::total_cmp);
+    let n = values.len();
+    (values[n / 2], values[n / 4], values[n * 3 / 4])
+}
+
+fn row(name: &str, unit: f64, what: &str, plain: Vec<f64>, proved: Vec<f64>) {
+    let ratios = plain.iter().zip(&proved).map(|(plain, proved)| proved / plain).collect();
+    let (ratio, low, high) = quarters(ratios);
+    let (plain, proved) = (quarters(plain).0 * unit, quarters(proved).0 * unit);
+    println!("| {name} | {plain:.1} {what} | {proved:.1} {what} | {ratio:.2} | {low:.2} to {high:.2} |");
+}
+
+/// How often the call is repeated so that a turn takes some milliseconds.
+fn times(case: &mut Case) -> u64 {
+    let mut times = 1;
+    while timed(|| (case.plain)(times)) < Duration::from_millis(2).as_secs_f64() {
+        times *= 2;
+    }
+    times
+}
+
+fn calls() {
+    for mut case in cases::all() {
+        let times = times(&mut case);
+        let (mut plain, mut proved) = (Vec::new(), Vec::new());
+        for _ in 0..PAIRS {
+            plain.push(timed(|| (case.plain)(times)) / times as f64);
+            proved.push(timed(|| (case.proved)(times)) / times as f64);
+        }
+        row(&case.name, 1e9, "ns", plain, proved);
+    }
+}
+
+/// Frames of noise, of small changes, and still ones, by turns.
+fn stream(path: &std::path::Path, frames: u64) -> std::io::Result<()> {
+    let mut chance = Chance::new(3);
+    let mut file = std::io::BufWriter::new(File::create(path)?);
+    let mut image = cases::picture(4, 255);
+    let raster = image.len() - 160 * 120;
+    for frame in 0..frames {
+        match frame / 50 % 3 {
+            0 => image[raster..].iter_mut().for_each(|pixel| *pixel = chance.next() as u8),
+            1 => (0..400).for_each(|_| image[raster + chance.below(160 * 120) as usize] ^= 64),
+            _ => {}
+        }
+        file.write_all(&image)?;
+    }
+    file.flush()
+}
+
+fn program(path: &str, stream: &std::path::Path) -> (f64, Vec<u8>) {
+    let mut output = Vec::new();
+    let seconds = timed(|| {
+        let input = Stdio::from(File::open(stream).expect("the stream was written"));
+        output = Command::new(path).stdin(input).output().expect("the program runs").stdout;
+    });
+    (seconds, output)
+}
+
+fn programs(proved: &str, plain: &str) {
+    let path = std::env::temp_dir().join(format!("uprzezar-stream-{}.pgm", std::process::id()));
+    stream(&path, 10_000).expect("the stream can be written");
+    let (mut plains, mut proveds) = (Vec::new(), Vec::new());
+    for _ in 0..PROGRAM_PAIRS {
+        let (plain_time, plain_rows) = program(plain, &path);
+        let (proved_time, proved_rows) = program(proved, &path);
+        assert!(plain_rows == proved_rows, "the two programs write other rows");
+        plains.push(plain_time);
+        proveds.push(proved_time);
+    }
+    std::fs::remove_file(&path).expect("the stream can be removed");
+    row("frozen, 10,000 frames of 160 x 120", 1e3, "ms", plains, proveds);
+}
+
+fn main() {
+    let paths: Vec<String> = std::env::args().skip(1).collect();
+    println!("| call | plain | proved | proved/plain | middle half |");
+    println!("|---|---|---|---|---|");
+    calls();
+    programs(&paths[0], &paths[1]);
+}

@@ -1,0 +1,134 @@
+//! The calls that are measured, each on both sides with the same arguments.
+
+use crate::chance::Chance;
+use crate::plain::book::Book;
+use crate::plain::{image, score};
+use crate::proved;
+use std::hint::black_box;
+
+/// A call repeated so many times.
+pub type Repeated = Box<dyn FnMut(u64)>;
+
+pub struct Case {
+    pub name: String,
+    pub plain: Repeated,
+    pub proved: Repeated,
+}
+
+fn repeated<T>(mut call: impl FnMut() -> T + 'static) -> Repeated {
+    Box::new(move |times| {
+        for _ in 0..times {
+            black_box(call());
+        }
+    })
+}
+
+/// The settings: what they are called, and L, n and D.
+const SETTINGS: [(&str, u64, u64, u64); 4] = [
+    ("the box's setting", 600, 1440, 3600),
+    ("n 4,096, b 1", 1, 4096, 1),
+    ("n 4,096, b 8", 255, 4096, 1),
+    ("n 4,096, b 16", 65535, 4096, 1),
+];
+
+const RUN: u64 = 1000;
+
+/// A book that has taken more items than it keeps, one short of a full block.
+fn filled(bound: u64, length: u64, tolerance: u64) -> (Book, Vec<u8>) {
+    let mut chance = Chance::new(bound);
+    let mut ring = vec![0; 8192];
+    let mut book = Book::open(bound, length, tolerance, &mut ring).expect("a good setting");
+    let block = (tolerance / bound).max(1);
+    for _ in 0..length + length / 3 / block * block + block - 1 {
+        book.add(&mut ring, chance.below(bound + 1)).expect("an item within the bound");
+    }
+    (book, ring)
+}
+
+pub fn crossed(book: Book) -> proved::Book {
+    let Book { bound, length, tolerance, carry, phase, kept, head } = book;
+    proved::Book { bound, length, tolerance, carry, phase, kept, head }
+}
+
+fn book_cases(cases: &mut Vec<Case>, setting: &str, bound: u64, length: u64, tolerance: u64) {
+    let (book, ring) = filled(bound, length, tolerance);
+    let record = crossed(book);
+    let (a, b) = (ring.clone(), ring.clone());
+    let (mut ring_a, mut ring_b) = (ring.clone(), ring.clone());
+    let item = bound / 2 + 1;
+    cases.push(Case {
+        name: format!("add that closes a block, {setting}"),
+        plain: repeated(move || {
+            let mut next = black_box(book);
+            (next.add(&mut ring_a, black_box(item)), next)
+        }),
+        proved: repeated(move || proved::add(black_box(record), &mut ring_b, black_box(item))),
+    });
+    let (mut ring_a, mut ring_b) = (ring.clone(), ring.clone());
+    let items: Vec<u64> = (0..RUN).map(|i| i * 7919 % (bound + 1)).collect();
+    let same_items = items.clone();
+    cases.push(Case {
+        name: format!("run of 1,000 adds, {setting}"),
+        plain: repeated(move || {
+            let mut next = black_box(book);
+            for &item in &items {
+                next.add(&mut ring_a, item).expect("an item within the bound");
+            }
+            next
+        }),
+        proved: repeated(move || {
+            let mut next = black_box(record);
+            for &item in &same_items {
+                next = proved::add(next, &mut ring_b, item).book;
+            }
+            next
+        }),
+    });
+    let (ring_a, ring_b) = (a.clone(), b.clone());
+    cases.push(Case {
+        name: format!("total of all that is kept, {setting}"),
+        plain: repeated(move || black_box(&book).total(&ring_a, black_box(book.kept))),
+        proved: repeated(move || proved::total(black_box(record), &ring_b, black_box(record.kept))),
+    });
+    let most = book.total(&a, book.kept).expect("the window is kept");
+    cases.push(Case {
+        name: format!("how far back for nearly all, {setting}"),
+        plain: repeated(move || black_box(&book).far(&a, black_box(most))),
+        proved: repeated(move || proved::far(black_box(record), &b, black_box(most))),
+    });
+}
+
+/// A picture of 160 x 120 with pixels up to maxval.
+pub fn picture(seed: u64, maxval: u64) -> Vec<u8> {
+    let mut chance = Chance::new(seed);
+    let mut image = format!("P5\n160 120\n{maxval}\n").into_bytes();
+    image.extend((0..160 * 120).map(|_| chance.below(maxval + 1) as u8));
+    image
+}
+
+fn picture_cases(cases: &mut Vec<Case>) {
+    for maxval in [255, 200] {
+        let (a, b) = (picture(1, maxval), picture(1, maxval));
+        cases.push(Case {
+            name: format!("header of 160 x 120, maxval {maxval}"),
+            plain: repeated(move || image::header(black_box(&a)).map(|image| image.used)),
+            proved: repeated(move || proved::header(black_box(&b))),
+        });
+    }
+    let (one_a, two_a) = (picture(1, 255), picture(2, 255));
+    let (one_b, two_b) = (one_a.clone(), two_a.clone());
+    cases.push(Case {
+        name: "score of 160 x 120".to_string(),
+        plain: repeated(move || score::score(black_box(600), black_box(12), &one_a, &two_a)),
+        proved: repeated(move || proved::score(black_box(600), black_box(12), &one_b, &two_b)),
+    });
+}
+
+pub fn all() -> Vec<Case> {
+    let mut cases = Vec::new();
+    for (setting, bound, length, tolerance) in SETTINGS {
+        book_cases(&mut cases, setting, bound, length, tolerance);
+    }
+    picture_cases(&mut cases);
+    cases
+}

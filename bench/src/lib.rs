@@ -1,0 +1,7 @@
+//! The calls of the library twice over: `plain` is an independent version in ordinary Rust, written from the papers, and `proved` is
+//! the library itself, linked as an archive.
+
+pub mod cases;
+pub mod chance;
+pub mod plain;
+pub mod proved;

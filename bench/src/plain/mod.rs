@@ -1,0 +1,29 @@
+//! The calls in ordinary Rust, written from paper 01 and not from the proved code.
+
+pub mod book;
+pub mod image;
+pub mod program;
+pub mod ring;
+pub mod score;
+
+/// Why a call was refused; the numbers are those of the paper's table.
+#[derive(Clone, Copy, Debug, PartialEq, Eq)]
+#[repr(u8)]
+pub enum Refusal {
+    BoundOutOfRange = 1,
+    LengthOutOfRange = 2,
+    ToleranceOutOfRange = 3,
+    RingTooShort = 4,
+    WindowTooLong = 5,
+    ZeroAsked = 6,
+    ItemTooLarge = 7,
+    NoBook = 8,
+    NotReached = 9,
+    RingCall = 10,
+    WrongByte = 11,
+    NumberOutOfRange = 12,
+    ImageTooLarge = 13,
+    EndsTooEarly = 14,
+    PixelTooLarge = 15,
+    ImagesDiffer = 16,
+}

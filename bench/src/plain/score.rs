@@ -1,0 +1,19 @@
+//! How much changed between two images.
+
+use super::image;
+use super::Refusal;
+
+#[inline(never)]
+pub fn score(bound: u64, allowance: u8, first: &[u8], second: &[u8]) -> Result<u64, Refusal> {
+    if !(1..=65535).contains(&bound) {
+        return Err(Refusal::BoundOutOfRange);
+    }
+    let one = image::header(first)?;
+    let two = image::header(second)?;
+    if (one.width, one.height, one.maxval) != (two.width, two.height, two.maxval) {
+        return Err(Refusal::ImagesDiffer);
+    }
+    let pairs = one.raster.iter().zip(two.raster);
+    let changed = pairs.filter(|(x, y)| x.abs_diff(**y) > allowance).count();
+    Ok(bound.min(changed as u64))
+}

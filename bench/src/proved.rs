@@ -1,0 +1,120 @@
+//! The library, as include/uprzezar.h declares it, and its calls with slices in the place of pointers.
+
+#[derive(Clone, Copy, Debug, Default, PartialEq, Eq)]
+#[repr(C)]
+pub struct Book {
+    pub bound: u64,
+    pub length: u64,
+    pub tolerance: u64,
+    pub carry: u64,
+    pub phase: u64,
+    pub kept: u64,
+    pub head: u64,
+}
+
+#[derive(Clone, Copy, Debug, PartialEq, Eq)]
+#[repr(C)]
+pub struct Updated {
+    pub refusal: u8,
+    pub book: Book,
+}
+
+/// A number, or a refusal with the number 0: a figure, a window, a slot's number, a sum or a score.
+#[derive(Clone, Copy, Debug, PartialEq, Eq)]
+#[repr(C)]
+pub struct Answer {
+    pub refusal: u8,
+    pub value: u64,
+}
+
+#[derive(Clone, Copy, Debug, PartialEq, Eq)]
+#[repr(C)]
+pub struct Ruled {
+    pub refusal: u8,
+    pub verdict: u8,
+    pub figure: u64,
+}
+
+#[derive(Clone, Copy, Debug, Default, PartialEq, Eq)]
+#[repr(C)]
+pub struct Numbers {
+    pub refusal: u8,
+    pub width: usize,
+    pub height: usize,
+    pub maxval: usize,
+    pub start: usize,
+    pub used: usize,
+}
+
+#[derive(Clone, Copy, Debug, PartialEq, Eq)]
+#[repr(C)]
+pub struct RasterPlace {
+    pub refusal: u8,
+    pub offset: usize,
+    pub length: usize,
+}
+
+extern "C" {
+    fn uprzezar_ring_clear(width: usize, slots: usize, ring: *mut u8, bytes: usize) -> u8;
+    fn uprzezar_ring_read(width: usize, slots: usize, ring: *const u8, bytes: usize, slot: usize) -> Answer;
+    fn uprzezar_ring_write(width: usize, slots: usize, ring: *mut u8, bytes: usize, slot: usize, value: u64) -> u8;
+    fn uprzezar_ring_sum(width: usize, slots: usize, ring: *const u8, bytes: usize, next: usize, newest: usize) -> Answer;
+    fn uprzezar_open(bound: u64, length: u64, tolerance: u64, ring: *mut u8, bytes: usize) -> Updated;
+    fn uprzezar_add(book: Book, ring: *mut u8, bytes: usize, item: u64) -> Updated;
+    fn uprzezar_total(book: Book, ring: *const u8, bytes: usize, window: u64) -> Answer;
+    fn uprzezar_far(book: Book, ring: *const u8, bytes: usize, amount: u64) -> Answer;
+    fn uprzezar_verdict(book: Book, ring: *const u8, bytes: usize, window: u64, amount: u64) -> Ruled;
+    fn uprzezar_header(bytes: *const u8, count: usize) -> Numbers;
+    fn uprzezar_raster(bytes: *const u8, count: usize) -> RasterPlace;
+    fn uprzezar_score(bound: u64, allowance: u8, first: *const u8, ones: usize, second: *const u8, twos: usize) -> Answer;
+}
+
+// A slice is all that the header asks of its callers: a pointer that is not null, with a length, and no other writer.
+
+pub fn ring_clear(width: usize, slots: usize, ring: &mut [u8]) -> u8 {
+    unsafe { uprzezar_ring_clear(width, slots, ring.as_mut_ptr(), ring.len()) }
+}
+
+pub fn ring_read(width: usize, slots: usize, ring: &[u8], slot: usize) -> Answer {
+    unsafe { uprzezar_ring_read(width, slots, ring.as_ptr(), ring.len(), slot) }
+}
+
+pub fn ring_write(width: usize, slots: usize, ring: &mut [u8], slot: usize, value: u64) -> u8 {
+    unsafe { uprzezar_ring_write(width, slots, ring.as_mut_ptr(), ring.len(), slot, value) }
+}
+
+pub fn ring_sum(width: usize, slots: usize, ring: &[u8], next: usize, newest: usize) -> Answer {
+    unsafe { uprzezar_ring_sum(width, slots, ring.as_ptr(), ring.len(), next, newest) }
+}
+
+pub fn open(bound: u64, length: u64, tolerance: u64, ring: &mut [u8]) -> Updated {
+    unsafe { uprzezar_open(bound, length, tolerance, ring.as_mut_ptr(), ring.len()) }
+}
+
+pub fn add(book: Book, ring: &mut [u8], item: u64) -> Updated {
+    unsafe { uprzezar_add(book, ring.as_mut_ptr(), ring.len(), item) }
+}
+
+pub fn total(book: Book, ring: &[u8], window: u64) -> Answer {
+    unsafe { uprzezar_total(book, ring.as_ptr(), ring.len(), window) }
+}
+
+pub fn far(book: Book, ring: &[u8], amount: u64) -> Answer {
+    unsafe { uprzezar_far(book, ring.as_ptr(), ring.len(), amount) }
+}
+
+pub fn verdict(book: Book, ring: &[u8], window: u64, amount: u64) -> Ruled {
+    unsafe { uprzezar_verdict(book, ring.as_ptr(), ring.len(), window, amount) }
+}
+
+pub fn header(bytes: &[u8]) -> Numbers {
+    unsafe { uprzezar_header(bytes.as_ptr(), bytes.len()) }
+}
+
+pub fn raster(bytes: &[u8]) -> RasterPlace {
+    unsafe { uprzezar_raster(bytes.as_ptr(), bytes.len()) }
+}
+
+pub fn score(bound: u64, allowance: u8, first: &[u8], second: &[u8]) -> Answer {
+    unsafe { uprzezar_score(bound, allowance, first.as_ptr(), first.len(), second.as_ptr(), second.len()) }
+}

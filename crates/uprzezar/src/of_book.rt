@@ -1,0 +1,50 @@
+// The book's calls.
+ghost use mathlib.Core.Path.{_≡_};
+ghost use Rattle.book.specs.Calls.{openAnswer, openBytes, addAnswer, addBytes, totalAnswer, farAnswer, verdictAnswer};
+ghost use Rattle.uprzezar.specs.Crossing.{asNumbers};
+use crate::Ruled;
+use crate::crossing;
+use book::Book;
+use book::Figure;
+use book::Updated;
+use book::Window;
+
+// Opens a book with a bound, a length and a tolerance, and clears the bytes that its ring takes.
+#[no_mangle]
+pub extern "C" fn uprzezar_open(bound: u64, length: u64, tolerance: u64, ring: &mut [u8]) -> Updated
+    ensures { λ r. ⌜ (r ≡ openAnswer bound length tolerance (now (ring .entry))) × (now (ring .exit) ≡ openBytes bound length tolerance (now (ring .entry))) ⌝ }
+{
+    book::open(bound, length, tolerance, ring)
+}
+
+// Adds one item to a book.
+#[no_mangle]
+pub extern "C" fn uprzezar_add(book: Book, ring: &mut [u8], item: u64) -> Updated
+    ensures { λ r. ⌜ (r ≡ addAnswer book (now (ring .entry)) item) × (now (ring .exit) ≡ addBytes book (now (ring .entry)) item) ⌝ }
+{
+    book::add(book, ring, item)
+}
+
+// The figure for the last `window` items.
+#[no_mangle]
+pub extern "C" fn uprzezar_total(book: Book, ring: &[u8], window: u64) -> Figure
+    ensures { λ r. ⌜ r ≡ totalAnswer book (now (ring .entry)) window ⌝ }
+{
+    book::total(book, ring, window)
+}
+
+// The shortest window whose figure reaches an amount.
+#[no_mangle]
+pub extern "C" fn uprzezar_far(book: Book, ring: &[u8], amount: u64) -> Window
+    ensures { λ r. ⌜ r ≡ farAnswer book (now (ring .entry)) amount ⌝ }
+{
+    book::far(book, ring, amount)
+}
+
+// The verdict for a window and an amount.
+#[no_mangle]
+pub extern "C" fn uprzezar_verdict(book: Book, ring: &[u8], window: u64, amount: u64) -> Ruled
+    ensures { λ r. ⌜ r ≡ asNumbers (verdictAnswer book (now (ring .entry)) window amount) ⌝ }
+{
+    crossing::as_numbers(book::verdict(book, ring, window, amount))
+}

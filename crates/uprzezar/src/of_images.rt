@@ -1,0 +1,42 @@
+// The calls of images and of the score.
+ghost use mathlib.Core.Path.{_≡_};
+ghost use Rattle.image.specs.Reading.{numbersOf};
+ghost use Rattle.score.specs.Calls.{scoreAnswer};
+ghost use Rattle.uprzezar.specs.Crossing.{rasterPlace};
+use crate::Raster;
+use crate::crossing;
+use image::Numbers;
+
+// The numbers of the image at the start of the bytes.
+#[no_mangle]
+pub extern "C" fn uprzezar_header(bytes: &[u8]) -> Numbers
+    ensures { λ r. ⌜ r ≡ numbersOf (now (bytes .entry)) ⌝ }
+{
+    image::header(bytes)
+}
+
+// Where its raster lies.
+#[no_mangle]
+pub extern "C" fn uprzezar_raster(bytes: &[u8]) -> Raster
+    ensures { λ r. ⌜ r ≡ rasterPlace (now (bytes .entry)) ⌝ }
+{
+    let numbers = image::header(bytes);
+    Raster {
+        refusal: numbers.refusal,
+        offset: numbers.start,
+        length: numbers.used - numbers.start,
+    }
+}
+
+// The score of two images under an allowance, or `bound` where the score is larger.
+#[no_mangle]
+pub extern "C" fn uprzezar_score(
+    bound: u64,
+    allowance: u8,
+    first: &[u8],
+    second: &[u8],
+) -> score::Answer
+    ensures { λ r. ⌜ r ≡ scoreAnswer bound allowance (now (first .entry)) (now (second .entry)) ⌝ }
+{
+    score::score(bound, allowance, first, second)
+}

@@ -1,0 +1,188 @@
+/*
+ * Uprzezar: a small book of frame counts for a camera box, and the reading and comparing of its pictures.
+ *
+ * C99, and C++. Link target/staticlib/libuprzezar.a, which `rt staticlib uprzezar` writes; it needs no other library, allocates nothing
+ * and keeps nothing between calls.
+ *
+ * What you must keep:
+ *   - a pointer and the length behind it name bytes that are yours to read for the whole call (and to write, where the pointer is not
+ *     const); the pointer is not null, not even where the length is 0;
+ *   - while a call runs, nobody else writes those bytes, and bytes lent for writing overlap no others that are lent to that call.
+ *
+ * What you may leave to us: everything else. Any number, any record, any ring bytes, any image and any length get an answer, and every
+ * answer is proved to be the one that the scope of work lays down. A refusal comes as a number above 0; then the other numbers of the
+ * answer are 0, the record is handed back as it came (opening hands back zeros), and no lent byte has changed. Where several refusals
+ * apply, the first in the order given at the function is the one.
+ */
+#ifndef UPRZEZAR_H
+#define UPRZEZAR_H
+
+#include <stddef.h>
+#include <stdint.h>
+
+#ifdef __cplusplus
+extern "C" {
+#endif
+
+/* The refusals. */
+enum {
+    UPRZEZAR_NO_REFUSAL = 0,
+    UPRZEZAR_BAD_BOUND = 1,        /* the bound is not 1 to 65,535 */
+    UPRZEZAR_BAD_LENGTH = 2,       /* the length is not 1 to 4,096 */
+    UPRZEZAR_BAD_TOLERANCE = 3,    /* the tolerance is 0, or above length times bound */
+    UPRZEZAR_RING_TOO_SHORT = 4,   /* the ring has too few bytes */
+    UPRZEZAR_WINDOW_TOO_LONG = 5,  /* the window is longer than what is kept */
+    UPRZEZAR_ZERO_ASKED = 6,       /* an amount of 0, or a verdict for a window of 0 */
+    UPRZEZAR_ITEM_TOO_LARGE = 7,   /* the item is above the bound */
+    UPRZEZAR_NO_BOOK = 8,          /* the record is none that a book can have */
+    UPRZEZAR_NOT_REACHED = 9,      /* no window that is kept reaches the amount */
+    UPRZEZAR_RING_CALL = 10,       /* the ring's own calls: width not 1 to 16, slots not 1 to 4,096, no such slot, more newest slots than
+                                      there are, or a value too large for the width */
+    UPRZEZAR_WRONG_BYTE = 11,      /* a wrong byte in an image's header, or a number without digits */
+    UPRZEZAR_BAD_NUMBER = 12,      /* width or height is not 1 to 1,024, or maxval not 1 to 255 */
+    UPRZEZAR_IMAGE_TOO_LARGE = 13, /* the image takes more than 24,576 bytes */
+    UPRZEZAR_ENDS_TOO_EARLY = 14,  /* the image goes on behind the bytes lent */
+    UPRZEZAR_PIXEL_TOO_LARGE = 15, /* a pixel is above maxval */
+    UPRZEZAR_IMAGES_DIFFER = 16    /* the two images differ in width, height or maxval */
+};
+
+/* The verdicts. */
+enum {
+    UPRZEZAR_NO_VERDICT = 0,
+    UPRZEZAR_LIVE = 1,      /* the window truly holds the amount */
+    UPRZEZAR_FROZEN = 2,    /* the window truly holds less */
+    UPRZEZAR_UNDECIDED = 3  /* the tolerance leaves it open */
+};
+
+/* The record of a book. Start from uprzezar_open, and hand each call the record that the last one gave back. */
+typedef struct {
+    uint64_t bound;
+    uint64_t length;
+    uint64_t tolerance;
+    uint64_t carry;
+    uint64_t phase;
+    uint64_t kept;
+    uint64_t head;
+} uprzezar_book;
+
+typedef struct {
+    uint8_t refusal;
+    uprzezar_book book;
+} uprzezar_updated;
+
+typedef struct {
+    uint8_t refusal;
+    uint64_t figure;
+} uprzezar_figure;
+
+typedef struct {
+    uint8_t refusal;
+    uint64_t window;
+} uprzezar_window;
+
+typedef struct {
+    uint8_t refusal;
+    uint8_t verdict;
+    uint64_t figure;
+} uprzezar_ruled;
+
+typedef struct {
+    uint8_t refusal;
+    uint64_t value;
+} uprzezar_answer;
+
+/* The numbers of an image: its raster is the bytes from `start` up to `used`, and the next image may begin at `used`. */
+typedef struct {
+    uint8_t refusal;
+    size_t width;
+    size_t height;
+    size_t maxval;
+    size_t start;
+    size_t used;
+} uprzezar_numbers;
+
+typedef struct {
+    uint8_t refusal;
+    size_t offset;
+    size_t length;
+} uprzezar_raster_place;
+
+/* The layouts that the archive was built with. */
+#if defined(__cplusplus) && __cplusplus >= 201103L
+#define UPRZEZAR_ASSERT(holds, says) static_assert(holds, says)
+#elif !defined(__cplusplus) && defined(__STDC_VERSION__) && __STDC_VERSION__ >= 201112L
+#define UPRZEZAR_ASSERT(holds, says) _Static_assert(holds, says)
+#elif !defined(__cplusplus) && defined(__GNUC__)
+#define UPRZEZAR_ASSERT(holds, says) __extension__ _Static_assert(holds, says)
+#else
+#define UPRZEZAR_ASSERT(holds, says) extern int uprzezar_layout[(holds) ? 1 : -1]
+#endif
+UPRZEZAR_ASSERT(sizeof(size_t) == 8, "64 bits");
+UPRZEZAR_ASSERT(sizeof(uprzezar_book) == 56, "book");
+UPRZEZAR_ASSERT(offsetof(uprzezar_book, length) == 8 && offsetof(uprzezar_book, tolerance) == 16, "book");
+UPRZEZAR_ASSERT(offsetof(uprzezar_book, carry) == 24 && offsetof(uprzezar_book, phase) == 32, "book");
+UPRZEZAR_ASSERT(offsetof(uprzezar_book, kept) == 40 && offsetof(uprzezar_book, head) == 48, "book");
+UPRZEZAR_ASSERT(sizeof(uprzezar_updated) == 64 && offsetof(uprzezar_updated, book) == 8, "updated");
+UPRZEZAR_ASSERT(sizeof(uprzezar_figure) == 16 && offsetof(uprzezar_figure, figure) == 8, "figure");
+UPRZEZAR_ASSERT(sizeof(uprzezar_window) == 16 && offsetof(uprzezar_window, window) == 8, "window");
+UPRZEZAR_ASSERT(sizeof(uprzezar_ruled) == 16 && offsetof(uprzezar_ruled, verdict) == 1, "ruled");
+UPRZEZAR_ASSERT(offsetof(uprzezar_ruled, figure) == 8, "ruled");
+UPRZEZAR_ASSERT(sizeof(uprzezar_answer) == 16 && offsetof(uprzezar_answer, value) == 8, "answer");
+UPRZEZAR_ASSERT(sizeof(uprzezar_numbers) == 48 && offsetof(uprzezar_numbers, width) == 8, "numbers");
+UPRZEZAR_ASSERT(offsetof(uprzezar_numbers, height) == 16 && offsetof(uprzezar_numbers, maxval) == 24, "numbers");
+UPRZEZAR_ASSERT(offsetof(uprzezar_numbers, start) == 32 && offsetof(uprzezar_numbers, used) == 40, "numbers");
+UPRZEZAR_ASSERT(sizeof(uprzezar_raster_place) == 24 && offsetof(uprzezar_raster_place, offset) == 8, "raster place");
+UPRZEZAR_ASSERT(offsetof(uprzezar_raster_place, length) == 16, "raster place");
+
+/* The book. */
+
+/* Opens a book: items up to `bound`, windows up to `length`, figures short by less than `tolerance`. Clears the bytes that the ring takes,
+   ceil(s * b / 8) of them (see the README), and leaves those behind them alone. Refusals: 1, 2, 3, 4. */
+uprzezar_updated uprzezar_open(uint64_t bound, uint64_t length, uint64_t tolerance, uint8_t *ring, size_t ring_bytes);
+
+/* Adds one item. Refusals: 8, 4, 7. */
+uprzezar_updated uprzezar_add(uprzezar_book book, uint8_t *ring, size_t ring_bytes, uint64_t item);
+
+/* The figure for the last `window` items: never above their true total, and short of it by less than the tolerance. A window of 0 gives 0.
+   Refusals: 8, 4, 5. */
+uprzezar_figure uprzezar_total(uprzezar_book book, const uint8_t *ring, size_t ring_bytes, uint64_t window);
+
+/* How far back for an amount: the shortest window whose figure reaches it. Refusals: 8, 4, 6, 9. */
+uprzezar_window uprzezar_far(uprzezar_book book, const uint8_t *ring, size_t ring_bytes, uint64_t amount);
+
+/* The verdict for a window and an amount, with the window's figure. Refusals: 8, 4, 6, 5. */
+uprzezar_ruled uprzezar_verdict(uprzezar_book book, const uint8_t *ring, size_t ring_bytes, uint64_t window, uint64_t amount);
+
+/* Images: binary PGM, one byte a pixel. */
+
+/* The numbers of the image at the start of the bytes; bytes behind it are allowed. Refusals: 11 to 14 in the order of the header's bytes,
+   then 13, 14, 15 for the raster. */
+uprzezar_numbers uprzezar_header(const uint8_t *bytes, size_t count);
+
+/* Where its raster lies. Refusals: those of uprzezar_header. */
+uprzezar_raster_place uprzezar_raster(const uint8_t *bytes, size_t count);
+
+/* The number of positions whose pixels differ by more than `allowance`, or `bound` where that is less. Refusals: 1, the first image's,
+   the second's, 16. */
+uprzezar_answer uprzezar_score(uint64_t bound, uint8_t allowance, const uint8_t *first, size_t first_bytes, const uint8_t *second,
+                               size_t second_bytes);
+
+/* The ring alone: `slots` numbers of `width` bits, one after another from the top bit of byte 0. */
+
+/* Sets the bytes that the ring takes to 0. Gives the refusal: 10, 4. */
+uint8_t uprzezar_ring_clear(size_t width, size_t slots, uint8_t *ring, size_t ring_bytes);
+
+/* The number in a slot. Refusals: 10, 4. */
+uprzezar_answer uprzezar_ring_read(size_t width, size_t slots, const uint8_t *ring, size_t ring_bytes, size_t slot);
+
+/* Puts a value into a slot. Gives the refusal: 10, 4. */
+uint8_t uprzezar_ring_write(size_t width, size_t slots, uint8_t *ring, size_t ring_bytes, size_t slot, uint64_t value);
+
+/* The sum of the `newest` slots before the slot `next`; before slot 0 stands the last one. Refusals: 10, 4. */
+uprzezar_answer uprzezar_ring_sum(size_t width, size_t slots, const uint8_t *ring, size_t ring_bytes, size_t next, size_t newest);
+
+#ifdef __cplusplus
+}
+#endif
+
+#endif

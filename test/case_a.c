@@ -1,0 +1,75 @@
+/* Case A of the scope of work, through the header, and the small pictures of its program. */
+#include "../include/uprzezar.h"
+
+#include <inttypes.h>
+#include <stdio.h>
+
+static const char *word(uint8_t verdict) {
+    static const char *const words[] = {"none", "live", "frozen", "undecided"};
+    return words[verdict];
+}
+
+static uprzezar_book state(uprzezar_updated answer, const uint8_t *ring) {
+    uprzezar_book b = answer.book;
+    printf("refusal %u: carry %" PRIu64 ", phase %" PRIu64 ", kept %" PRIu64 ", head %" PRIu64 ", ring %02x\n", answer.refusal, b.carry,
+           b.phase, b.kept, b.head, ring[0]);
+    return b;
+}
+
+static void book(void) {
+    static const uint64_t items[] = {3, 4, 5, 5, 0, 1, 5};
+    static const uint64_t amounts[] = {4, 5, 14, 15};
+    static const uint64_t asked[] = {9, 10, 18, 19};
+    uint8_t ring[2] = {0xff, 0xff};
+    uprzezar_book b = uprzezar_open(5, 6, 10, ring, 1).book;
+    size_t i;
+    for (i = 0; i < sizeof items / sizeof *items; i++)
+        b = state(uprzezar_add(b, ring, 1, items[i]), ring);
+    for (i = 0; i <= 7; i++) {
+        uprzezar_figure f = uprzezar_total(b, ring, 1, i);
+        printf("window %zu: refusal %u, figure %" PRIu64 "\n", i, f.refusal, f.figure);
+    }
+    for (i = 0; i < 4; i++) {
+        uprzezar_window w = uprzezar_far(b, ring, 1, amounts[i]);
+        printf("how far back for %" PRIu64 ": refusal %u, window %" PRIu64 "\n", amounts[i], w.refusal, w.window);
+    }
+    for (i = 0; i < 4; i++) {
+        uprzezar_ruled r = uprzezar_verdict(b, ring, 1, 4, asked[i]);
+        printf("window 4, amount %" PRIu64 ": refusal %u, %s, figure %" PRIu64 "\n", asked[i], r.refusal, word(r.verdict), r.figure);
+    }
+    state(uprzezar_add(b, ring, 1, 6), ring);
+    state(uprzezar_add(b, ring, 0, 5), ring);
+    state(uprzezar_add(b, ring, 1, 2), ring);
+    printf("the byte behind the ring: %02x\n", ring[1]);
+}
+
+static void pictures(void) {
+    static const uint8_t one[] = "P5\n2 2\n255\n\0\0\0";
+    static const uint8_t two[] = "P5 2 2 255 \024\014\015";
+    uprzezar_numbers n = uprzezar_header(one, sizeof one);
+    uprzezar_raster_place p = uprzezar_raster(two, sizeof two);
+    uprzezar_answer s = uprzezar_score(600, 12, one, sizeof one, two, sizeof two);
+    uprzezar_answer cut = uprzezar_score(600, 12, one, sizeof one - 1, two, sizeof two);
+    printf("image: refusal %u, %zu x %zu, maxval %zu, raster from %zu, used %zu\n", n.refusal, n.width, n.height, n.maxval, n.start,
+           n.used);
+    printf("raster: refusal %u, %zu bytes from %zu\n", p.refusal, p.length, p.offset);
+    printf("score: refusal %u, %" PRIu64 "; of an image cut short: refusal %u, %" PRIu64 "\n", s.refusal, s.value, cut.refusal, cut.value);
+}
+
+static void slots(void) {
+    uint8_t ring[3] = {0xff, 0xff, 0xff};
+    uint8_t cleared = uprzezar_ring_clear(5, 3, ring, sizeof ring);
+    uint8_t wrote = uprzezar_ring_write(5, 3, ring, sizeof ring, 2, 19);
+    uint8_t refused = uprzezar_ring_write(5, 3, ring, sizeof ring, 2, 32);
+    uprzezar_answer read = uprzezar_ring_read(5, 3, ring, sizeof ring, 2);
+    uprzezar_answer sum = uprzezar_ring_sum(5, 3, ring, sizeof ring, 0, 3);
+    printf("ring: %u, %u, %u; %02x %02x %02x; slot 2 holds %" PRIu64 ", all three %" PRIu64 "\n", cleared, wrote, refused, ring[0],
+           ring[1], ring[2], read.value, sum.value);
+}
+
+int main(void) {
+    book();
+    pictures();
+    slots();
+    return 0;
+}
