@@ -2,7 +2,7 @@
 
 use crate::chance::Chance;
 use crate::plain::book::Book;
-use crate::plain::{image, score};
+use crate::plain::{image, score, Refusal};
 use crate::proved;
 use std::hint::black_box;
 
@@ -50,6 +50,12 @@ pub fn crossed(book: Book) -> proved::Book {
     proved::Book { bound, length, tolerance, carry, phase, kept, head }
 }
 
+/// The plain version with the record going in and coming back by value, as it crosses to C.
+#[inline(never)]
+fn add_by_value(mut book: Book, ring: &mut [u8], item: u64) -> (Result<(), Refusal>, Book) {
+    (book.add(ring, item), book)
+}
+
 fn book_cases(cases: &mut Vec<Case>, setting: &str, bound: u64, length: u64, tolerance: u64) {
     let (book, ring) = filled(bound, length, tolerance);
     let record = crossed(book);
@@ -73,6 +79,26 @@ fn book_cases(cases: &mut Vec<Case>, setting: &str, bound: u64, length: u64, tol
             let mut next = black_box(book);
             for &item in &items {
                 next.add(&mut ring_a, item).expect("an item within the bound");
+            }
+            next
+        }),
+        proved: repeated(move || {
+            let mut next = black_box(record);
+            for &item in &same_items {
+                next = proved::add(next, &mut ring_b, item).book;
+            }
+            next
+        }),
+    });
+    let (mut ring_a, mut ring_b) = (ring.clone(), ring.clone());
+    let items: Vec<u64> = (0..RUN).map(|i| i * 7919 % (bound + 1)).collect();
+    let same_items = items.clone();
+    cases.push(Case {
+        name: format!("the same, the record by value on both sides, {setting}"),
+        plain: repeated(move || {
+            let mut next = black_box(book);
+            for &item in &items {
+                next = add_by_value(next, &mut ring_a, item).1;
             }
             next
         }),

@@ -13,7 +13,8 @@ pub fn score(bound: u64, allowance: u8, first: &[u8], second: &[u8]) -> Result<u
     if (one.width, one.height, one.maxval) != (two.width, two.height, two.maxval) {
         return Err(Refusal::ImagesDiffer);
     }
+    // a sum in the place of `filter` and `count`, which the compiler does not turn into vector instructions
     let pairs = one.raster.iter().zip(two.raster);
-    let changed = pairs.filter(|(x, y)| x.abs_diff(**y) > allowance).count();
-    Ok(bound.min(changed as u64))
+    let changed: u32 = pairs.map(|(x, y)| u32::from(x.abs_diff(*y) > allowance)).sum();
+    Ok(bound.min(changed.into()))
 }

@@ -61,7 +61,7 @@ pub(crate) fn add(book: Book, ring: &mut [u8], item: u64) -> Book
     let carry = grown(book, item);
     let kept = kept_more(book);
     let phase = book.phase + 1;
-    if phase != block_length(book.bound, book.tolerance) {
+    if phase != block_length(book.bound, book.length, book.tolerance) {
         return with(book, carry, phase, kept, book.head);
     }
     let quotient = carry / book.tolerance;

@@ -41,7 +41,7 @@ fn walk(book: Book, ring: &[u8], amount: u64) -> Stop
     let count = slot_count(book.bound, book.length, book.tolerance);
     let most = ceil_div(
         book.kept - book.phase,
-        block_length(book.bound, book.tolerance),
+        block_length(book.bound, book.length, book.tolerance),
     );
     let mut slot = book.head;
     let mut blocks = 0;
@@ -73,7 +73,7 @@ fn most_places(book: Book, blocks: u64) -> u64
     ensures { λ r. ⌜ r ≡ furthest book blocks ⌝ }
 {
     if blocks != 0 {
-        return block_length(book.bound, book.tolerance) - 1;
+        return block_length(book.bound, book.length, book.tolerance) - 1;
     }
     if book.phase == 0 { 0 } else { book.phase - 1 }
 }
@@ -99,7 +99,8 @@ pub(crate) fn how_far(book: Book, ring: &[u8], amount: u64) -> u64
     }
     let most = most_places(book, stop.blocks);
     let e = places(most, end - amount, book.bound * stop.quotient);
-    let window = book.phase + stop.blocks * block_length(book.bound, book.tolerance) - e;
+    let window = book.phase + stop.blocks * block_length(book.bound, book.length, book.tolerance)
+        - e;
     if book.kept < window {
         return 0;
     }

@@ -65,7 +65,7 @@ fn state(book: Book) -> u8
     if book.kept < book.phase {
         return NO_BOOK;
     }
-    if block_length(book.bound, book.tolerance) <= book.phase {
+    if block_length(book.bound, book.length, book.tolerance) <= book.phase {
         return NO_BOOK;
     }
     if slot_count(book.bound, book.length, book.tolerance) <= book.head {

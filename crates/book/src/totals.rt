@@ -28,7 +28,7 @@ pub(crate) fn figure_of(book: Book, ring: &[u8], window: u64) -> u64
     if window <= book.phase {
         return reckon(book, 0, book.phase - window, book.carry / book.tolerance);
     }
-    let block = block_length(book.bound, book.tolerance);
+    let block = block_length(book.bound, book.length, book.tolerance);
     let items = window - book.phase;
     let j = ceil_div(items, block);
     let newer = slots::sum_newest(book, ring, j - 1);

@@ -1,11 +1,12 @@
 -- Pixels of one byte, and the largest of some pixels.
 -- Assumes nothing.
-use Prim.Native.Nat.{ℕ, zero, suc, _≤_, _<_, max}
+use Prim.Native.Nat.{ℕ, zero, suc, _+_, _≤_, _<_, max}
 use mathlib.Core.Bool.{Bool, true, false}
 use mathlib.Core.List.{List}
-use mathlib.Core.Path.{_≡_, refl}
+use mathlib.Core.Path.{_≡_, refl, ap₂, _∙_}
 use native.Mathlib.Omega.{arith}
-use native.Mathlib.Nat.{mul-one}
+use native.Mathlib.Nat.{mul-one, add-zero, add-suc}
+use native.Mathlib.Numerals.{add-one}
 use borrow.Author.Tests.{leb-true, leb-false}
 use lib.Dec.{leb}
 use lib.ListN.{length, take, drop, getD, drop-of-length-le, List·getD-eq-default}
@@ -32,6 +33,18 @@ largest-none pixel = refl
 pub largest-more : (pixel : ℕ → ℕ) (count : ℕ) → largest pixel (suc count) ≡ max (largest pixel count) (pixel count)
 unfolding largest
 largest-more pixel count = refl
+
+-- one pixel more
+pub largest-on : (pixel : ℕ → ℕ) (count : ℕ) {most byte new : ℕ} → new ≡ max most byte → most ≡ largest pixel count → byte ≡ pixel count
+    → new ≡ largest pixel (count + 1)
+largest-on pixel count is-new is-most is-byte =
+    rw (add-one count, largest-more pixel count) (is-new ∙ ap₂ max is-most is-byte)
+
+-- the largest pixel of some and of those behind them
+pub largest-join : (pixel : ℕ → ℕ) (m n : ℕ) → largest pixel (m + n) ≡ max (largest pixel m) (largest (λ k. pixel (m + k)) n)
+unfolding largest
+largest-join pixel m zero = rw (add-zero m) (omega arith)
+largest-join pixel m (suc n) = rw (add-suc m n) (omega (arith, largest-join pixel m n))
 
 -- the largest pixel is at most m exactly when each pixel is
 pub largest-le : (pixel : ℕ → ℕ) (m count : ℕ) → ((i : ℕ) → i < count → pixel i ≤ m) → largest pixel count ≤ m

@@ -36,17 +36,33 @@ fn larger(a: u8, b: u8) -> u8
     if a < b { b } else { a }
 }
 
-// One pass that LLVM turns into vector instructions: nothing in the loop but the larger of two bytes.
+// The largest pixel of the first and of the second `half` pixels. One pass that LLVM turns into vector instructions: nothing in the loop
+// but the larger of two bytes; with both halves side by side each turn takes twice as many pixels.
+fn largest_of_halves(raster: &[u8], half: usize) -> u8
+    requires { ⌜ half + half ≤ length (now raster) ⌝ }
+    ensures { λ r. ⌜ r ≡ largest (pixelAt pixelBytes (now (raster .entry))) (half + half) ⌝ }
+{
+    let mut first: u8 = 0;
+    let mut second: u8 = 0;
+    let mut i = 0;
+    while i < half {
+        first = larger(first, raster[i]);
+        second = larger(second, raster[half + i]);
+        i += 1;
+    }
+    larger(first, second)
+}
+
+// The largest pixel: an odd number of them leaves one behind the halves.
 fn largest_of(raster: &[u8]) -> u8
     ensures { λ r. ⌜ r ≡ largest (pixelAt pixelBytes (now (raster .entry))) (length (now (raster .entry))) ⌝ }
 {
-    let mut most: u8 = 0;
-    let mut i = 0;
-    while i < raster.len() {
-        most = larger(most, raster[i]);
-        i += 1;
+    let half = raster.len() / 2;
+    let most = largest_of_halves(raster, half);
+    if half + half == raster.len() {
+        return most;
     }
-    most
+    larger(most, raster[half + half])
 }
 
 // Whether a pixel of the raster is above maxval.

@@ -51,7 +51,7 @@ sub-ceil-div : tie.Need-sub-ceil-div Inv-loop μ-loop
 sub-ceil-div c = c .before .before .before .before .pre .0 .kept-low
 
 block-length-requires : tie.Need-block-length-requires Inv-loop μ-loop
-block-length-requires c κs = c .before .before .before .before .pre .0 .ranges .bound-low
+block-length-requires c κs = c .before .before .before .before .pre .0 .ranges
 
 ceil-div-requires : tie.Need-ceil-div-requires Inv-loop μ-loop
 ceil-div-requires c κs = let b = c .before .before .before .before .before .args .book in

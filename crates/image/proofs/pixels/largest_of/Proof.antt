@@ -1,62 +1,51 @@
--- `image::pixels::largest_of` meets its contract: after i turns it has the largest of the first i pixels.
+-- `image::pixels::largest_of` meets its contract: the halves are all pixels, or all but one.
 -- Assumes nothing.
-use Prim.Native.Nat.{_-_, _≤_}
+use Prim.Native.Nat.{_+_, _/_}
 use mathlib.Core.Path.{_≡_, sym, ap, _∙_}
 use native.Mathlib.Omega.{arith}
-use native.Mathlib.Numerals.{add-one}
 use denote.Ref.{now}
 use lib.ListN.{length}
 use Rattle.image.specs.Pixels.{pixelBytes, pixelAt, largest}
-use Rattle.image.proofs.Largest.{pixel-one, largest-none, largest-more}
+use Rattle.image.proofs.Largest.{pixel-one, largest-on}
+use borrow.Author.Needs.{needs}
 use Rattle.image.proofs.pixels.largest_of.Statement.{statement}
 use Rattle.image.proofs.pixels.largest_of.Tie as tie
 
-abbrev Inv-loop : tie.InvT-loop
-Inv-loop raster most₀ i₀ most i = (i ≤ length raster) × (most ≡ largest (pixelAt pixelBytes raster) i)
+largest-of-halves-requires : tie.Need-largest-of-halves-requires
+largest-of-halves-requires c κs = search needs
 
-abbrev μ-loop : tie.MeasureT-loop
-μ-loop raster most₀ i₀ most i = length raster - i
+add-if1 : tie.Need-add-if1
+add-if1 c = search needs
 
-loop-holds : tie.Need-loop-holds Inv-loop μ-loop
-loop-holds c = (omega arith, sym (largest-none (pixelAt pixelBytes (now (c .before .args .raster)))))
+returns : tie.Need-returns
+returns c = let pixel = pixelAt pixelBytes (now (c .before .before .before .args .raster)) in
+    c .before .largest-of-halves .ensures ∙ ap (largest pixel) (c .if1 .taken)
 
-shared-slice-read-larger : tie.Need-shared-slice-read-larger Inv-loop μ-loop
-shared-slice-read-larger c = omega arith
+add-larger : tie.Need-add-larger
+add-larger c = search needs
 
-larger-requires : tie.Need-larger-requires Inv-loop μ-loop
-larger-requires c κs = tt
+shared-slice-read-larger : tie.Need-shared-slice-read-larger
+shared-slice-read-larger c = search needs
 
-add-i : tie.Need-add-i Inv-loop μ-loop
-add-i c = omega arith
+larger-requires : tie.Need-larger-requires
+larger-requires c κs = search needs
 
-loop-less : tie.Need-loop-less Inv-loop μ-loop
-loop-less c = omega arith
-
-loop-again : tie.Need-loop-again Inv-loop μ-loop
-loop-again c = let r = now (c .before .before .before .before .before .args .raster) in
-    let l = c .before .before .before .loop in
-    rw (add-one (l .i)) (
-      omega arith,
-      c .larger .ensures
-          ∙ rw (l .inv .1, sym (pixel-one r (l .i))) (sym (largest-more (pixelAt pixelBytes r) (l .i))),
-    )
-
-returns : tie.Need-returns Inv-loop μ-loop
-returns c = let r = now (c .before .before .before .args .raster) in
-    let l = c .before .loop in
-    let all : l .i ≡ length r = omega arith in
-    l .inv .1 ∙ ap (largest (pixelAt pixelBytes r)) all
+returns-2 : tie.Need-returns-2
+returns-2 c = let raster = now (c .before .before .before .before .before .args .raster) in
+    let half = length raster / 2 in
+    let pixel = pixelAt pixelBytes raster in
+    let all : half + half + 1 ≡ length raster = omega arith in
+    largest-on pixel (half + half) (c .larger .ensures) (c .before .before .before .largest-of-halves .ensures) (sym (pixel-one raster (half + half)))
+    ∙ ap (largest pixel) all
 
 pub largest-of-spec : {M : Type 1} → statement M
 largest-of-spec =
     tie.close
     (tie.spec
-    Inv-loop
-    μ-loop
-    loop-holds
+    largest-of-halves-requires
+    add-if1
+    returns
+    add-larger
     shared-slice-read-larger
     larger-requires
-    add-i
-    loop-less
-    loop-again
-    returns)
+    returns-2)
