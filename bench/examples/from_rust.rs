@@ -7,5 +7,5 @@ fn main() {
         book = proved::add(book, &mut ring, 250).book;
     }
     let back = proved::far(book, &ring, 3600);
-    println!("refusal {}: 3600 pixels changed over the last {} frames", back.refusal, back.value);
+    println!("refusal {}: at least 3600 pixels changed over the last {} frames", back.refusal, back.value);
 }

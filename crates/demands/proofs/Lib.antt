@@ -7,3 +7,4 @@ pub mod Follows
 pub mod Blocks
 pub mod Distance
 pub mod Verdicts
+pub mod Usable

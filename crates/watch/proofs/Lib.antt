@@ -3,3 +3,4 @@ pub mod Saying
 pub mod Unique
 pub mod Streaming
 pub mod Whole
+pub mod Early
