@@ -5,3 +5,4 @@ pub mod cases;
 pub mod chance;
 pub mod plain;
 pub mod proved;
+pub mod stream;

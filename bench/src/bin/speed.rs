@@ -3,9 +3,7 @@
 //!     speed PROVED_FROZEN PLAIN_FROZEN
 
 use bench::cases::{self, Case};
-use bench::chance::Chance;
-use std::fs::File;
-use std::io::Write;
+use bench::stream::Stream;
 use std::process::{Command, Stdio};
 use std::time::{Duration, Instant};
 
@@ -53,44 +51,25 @@ fn calls() {
     }
 }
 
-/// Frames of noise, of small changes, and still ones, by turns.
-fn stream(path: &std::path::Path, frames: u64) -> std::io::Result<()> {
-    let mut chance = Chance::new(3);
-    let mut file = std::io::BufWriter::new(File::create(path)?);
-    let mut image = cases::picture(4, 255);
-    let raster = image.len() - 160 * 120;
-    for frame in 0..frames {
-        match frame / 50 % 3 {
-            0 => image[raster..].iter_mut().for_each(|pixel| *pixel = chance.next() as u8),
-            1 => (0..400).for_each(|_| image[raster + chance.below(160 * 120) as usize] ^= 64),
-            _ => {}
-        }
-        file.write_all(&image)?;
-    }
-    file.flush()
-}
-
-fn program(path: &str, stream: &std::path::Path) -> (f64, Vec<u8>) {
+fn program(path: &str, stream: &Stream) -> (f64, Vec<u8>) {
     let mut output = Vec::new();
     let seconds = timed(|| {
-        let input = Stdio::from(File::open(stream).expect("the stream was written"));
+        let input = Stdio::from(stream.open().expect("the stream was written"));
         output = Command::new(path).stdin(input).output().expect("the program runs").stdout;
     });
     (seconds, output)
 }
 
 fn programs(proved: &str, plain: &str) {
-    let path = std::env::temp_dir().join(format!("uprzezar-stream-{}.pgm", std::process::id()));
-    stream(&path, 10_000).expect("the stream can be written");
+    let stream = Stream::new(10_000).expect("the stream can be written");
     let (mut plains, mut proveds) = (Vec::new(), Vec::new());
     for _ in 0..PROGRAM_PAIRS {
-        let (plain_time, plain_rows) = program(plain, &path);
-        let (proved_time, proved_rows) = program(proved, &path);
+        let (plain_time, plain_rows) = program(plain, &stream);
+        let (proved_time, proved_rows) = program(proved, &stream);
         assert!(plain_rows == proved_rows, "the two programs write other rows");
         plains.push(plain_time);
         proveds.push(proved_time);
     }
-    std::fs::remove_file(&path).expect("the stream can be removed");
     row("frozen, 10,000 frames of 160 x 120", 1e3, "ms", plains, proveds);
 }
 

@@ -16,14 +16,12 @@ fn check(width: usize, slots: usize, sound: bool, ring: &[u8]) -> Result<(), Ref
     Ok(())
 }
 
-/// The number in a slot. The caller has seen to it that the slot lies in the ring.
+/// The number in a slot, which lies within three bytes. The caller has seen to it that the slot lies in the ring.
 pub(super) fn get(width: usize, ring: &[u8], slot: usize) -> u64 {
     let from = slot * width;
-    let to = from + width;
-    let last = (to - 1) / 8;
-    let word = ring[from / 8..=last].iter().fold(0u32, |word, &byte| word << 8 | u32::from(byte));
-    let after = (last + 1) * 8 - to;
-    u64::from(word >> after) & ((1 << width) - 1)
+    let byte = |i: usize| ring.get(from / 8 + i).map_or(0, |&byte| u32::from(byte));
+    let word = byte(0) << 16 | byte(1) << 8 | byte(2);
+    u64::from(word >> (24 - from % 8 - width)) & ((1 << width) - 1)
 }
 
 pub(super) fn put(width: usize, ring: &mut [u8], slot: usize, value: u64) {

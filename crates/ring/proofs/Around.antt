@@ -1,7 +1,7 @@
 -- The way back through the slots: the slot before 0 is the last one, and sums of the newest slots grow by one slot at a time.
 -- Assumes nothing.
 use Prim.Native.Nat.{ℕ, zero, suc, _+_, _-_, _*_, _<_, _≤_}
-use native.Mathlib.Nat.{suc-mul}
+use native.Mathlib.Nat.{suc-mul, add-zero, add-suc, add-assoc}
 use native.Mathlib.Omega.{arith}
 use mathlib.Core.Logic.{_⊎_, inl, inr}
 use mathlib.Core.Path.{_≡_, refl, sym, ap, ap₂, _∙_}
@@ -84,6 +84,36 @@ unfolding sumNewest
 sum-same held held′ slots next zero h same = refl
 sum-same held held′ slots next (suc j) h same =
     ap₂ _+_ (sum-same held held′ slots next j h same) (same (newest slots next (suc j)) (newest-lt slots next (suc j) h))
+
+-- a sum back from the end, and one slot more
+pub sum-on : (held : ℕ → ℕ) (end slot : ℕ) → 1 ≤ slot → slot ≤ end
+    → sumNewest held end end (end - (slot - 1)) ≡ sumNewest held end end (end - slot) + held (slot - 1)
+sum-on held end slot low high =
+    let more : end - (slot - 1) ≡ suc (end - slot) = omega arith in
+    let here : newest end end (suc (end - slot)) ≡ slot - 1 = newest-near end end (suc (end - slot)) (omega arith) ∙ omega arith in
+    ap (sumNewest held end end) more
+    ∙ sum-more held end end (end - slot)
+    ∙ ap (λ (at : ℕ). sumNewest held end end (end - slot) + held at) here
+
+-- a sum that does not come to slot 0 is that of a ring which ends at `next` …
+pub sum-near : (held : ℕ → ℕ) (slots next j : ℕ) → j ≤ next → sumNewest held slots next j ≡ sumNewest held next next j
+unfolding sumNewest
+sum-near held slots next zero h = refl
+sum-near held slots next (suc j) h =
+    rw (sum-near held slots next j (omega arith), newest-near slots next (suc j) h, newest-near next next (suc j) h)
+
+-- … and one that goes on is that and a sum from the ring's end
+pub sum-far : (held : ℕ → ℕ) (slots next k : ℕ) → next + k ≤ slots
+    → sumNewest held slots next (next + k) ≡ sumNewest held next next next + sumNewest held slots slots k
+unfolding sumNewest
+sum-far held slots next zero h = rw (add-zero next) (sum-near held slots next next (omega arith) ∙ sym (add-zero (sumNewest held next next next)))
+sum-far held slots next (suc k) h =
+    let far : newest slots next (suc (next + k)) ≡ slots - suc k = newest-far slots next (suc (next + k)) (omega arith) (omega arith) ∙ omega arith in
+    let near : newest slots slots (suc k) ≡ slots - suc k = newest-near slots slots (suc k) (omega arith) in
+    rw (add-suc next k) (
+    ap (λ (n : ℕ). n + held (newest slots next (suc (next + k)))) (sum-far held slots next k (omega arith))
+    ∙ ap (λ (slot : ℕ). sumNewest held next next next + sumNewest held slots slots k + held slot) (far ∙ sym near)
+    ∙ add-assoc (sumNewest held next next next) (sumNewest held slots slots k) (held (newest slots slots (suc k))))
 
 -- a sum of j slots that each hold at most `most`
 pub sum-le : (held : ℕ → ℕ) (most : ℕ) → ((slot : ℕ) → held slot ≤ most) → (slots next j : ℕ) → sumNewest held slots next j ≤ j * most

@@ -259,6 +259,11 @@ module _ (ring : List ℕ) (bytes : Bytes ring) (first : ℕ) where
       → wordOf ring first 3 ≡ (getD ring first 0 * 256 + getD ring (first + 1) 0) * 256 + getD ring (first + 2) 0
   word-three h = word-more 2 (omega arith) ∙ rw (word-two (omega arith))
 
+  pub word-four : first + 4 ≤ length ring
+      → wordOf ring first 4
+      ≡ ((getD ring first 0 * 256 + getD ring (first + 1) 0) * 256 + getD ring (first + 2) 0) * 256 + getD ring (first + 3) 0
+  word-four h = word-more 3 (omega arith) ∙ rw (word-three (omega arith))
+
 -- a word of at most three bytes is below 2^24
 pub word-lt : (ring : List ℕ) (first count : ℕ) → count ≤ 3 → wordOf ring first count < 2 ^ 24
 word-lt ring first count h =
@@ -312,3 +317,7 @@ module _ (word width after value : ℕ) (small : word < 2 ^ 24) (within : width 
   pub patch-product : (word / 2 ^ (width + after) * 2 ^ width + value) * 2 ^ after ≤ 2 ^ 49
   patch-product =
       mul-le-mul {n₂ = 2 ^ 25} {m₂ = 2 ^ 24} (le-of-lt patch-sum) (pow-mono {j = 24} (omega arith))
+
+-- the first bit of a slot is one of the 65,536 that a ring can have
+pub first-bit-le : (width slot : ℕ) → width ≤ 16 → slot < 4096 → slot * width ≤ 65520
+first-bit-le width slot narrow below = mul-le-mul {n₂ = 4095} {m₂ = 16} (omega arith) narrow

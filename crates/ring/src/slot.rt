@@ -1,10 +1,10 @@
-// The slots of a ring: where one lies, getting and putting its number, and the way back from one to the one before it.
+// The slots of a ring: where one lies, getting and putting its number, and the sum of the newest.
 ghost use mathlib.Core.Path.{_≡_};
 ghost use mathlib.Core.List.{_++_};
 ghost use Prim.Native.Nat.{_+_, _≤_, _<_, _*_, _/_, _%_, _^_};
 ghost use lib.ListN.{length, drop, replicate};
 ghost use Rattle.ring.specs.Slot.{field, written};
-ghost use Rattle.ring.specs.Newest.{slotBefore, sumNewest};
+ghost use Rattle.ring.specs.Newest.{sumNewest};
 use crate::word;
 
 // The bytes in which a slot lies: `count` of them from `first` on, and `after` bits behind the slot in the last one.
@@ -30,11 +30,24 @@ fn locate(width: usize, slot: usize) -> Place
     }
 }
 
-// The number in a slot.
+// The number in a slot with three bytes or more behind its first one: four bytes hold the slot, wherever in the first it begins.
+fn get_of_four(width: usize, ring: &[u8], slot: usize) -> u64
+    requires { ⌜ (1 ≤ width) × (width ≤ 16) × (slot < 4096) × (slot * width / 8 + 4 ≤ length (now ring)) ⌝ }
+    ensures { λ r. ⌜ r ≡ field width (now (ring .entry)) slot ⌝ }
+{
+    let from = slot * width;
+    let after = 32 - width - from % 8;
+    (word::load_four(ring, from / 8) >> after) % word::power(width)
+}
+
+// The number in a slot. All but the last slots are read by one load, without asking in how many bytes they lie.
 pub(crate) fn get(width: usize, ring: &[u8], slot: usize) -> u64
     requires { ⌜ (1 ≤ width) × (width ≤ 16) × (slot < 4096) × (slot * width + width ≤ length (now ring) * 8) ⌝ }
     ensures { λ r. ⌜ r ≡ field width (now (ring .entry)) slot ⌝ }
 {
+    if slot * width / 8 + 4 <= ring.len() {
+        return get_of_four(width, ring, slot);
+    }
     let at = locate(width, slot);
     let first = at.first;
     let count = at.count;
@@ -54,28 +67,29 @@ pub(crate) fn put(width: usize, ring: &mut [u8], slot: usize, value: u64)
     word::store(ring, first, count, new);
 }
 
-// The slot before a slot; before 0 stands the last one.
-fn before(slots: usize, slot: usize) -> usize
-    requires { ⌜ slot < slots ⌝ }
-    ensures { λ r. ⌜ r ≡ slotBefore slots slot ⌝ }
+// The sum of the last n of the first `end` slots.
+fn sum_last(width: usize, ring: &[u8], end: usize, n: usize) -> u64
+    requires { ⌜ (1 ≤ width) × (width ≤ 16) × (end ≤ 4096) × (end * width ≤ length (now ring) * 8) × (n ≤ end) ⌝ }
+    ensures { λ r. ⌜ r ≡ sumNewest (field width (now (ring .entry))) end end n ⌝ }
 {
-    if slot == 0 { slots - 1 } else { slot - 1 }
+    let mut sum: u64 = 0;
+    let mut slot = end;
+    while end - n < slot {
+        slot -= 1;
+        sum += get(width, ring, slot);
+    }
+    sum
 }
 
-// The sum of the j newest slots before the slot `next`.
+// The sum of the j newest slots before the slot `next`: those below it, and then the last ones of the ring.
 pub(crate) fn sum_newest(width: usize, slots: usize, ring: &[u8], next: usize, j: usize) -> u64
     requires { ⌜ (1 ≤ width) × (width ≤ 16) × (slots ≤ 4096) × (slots * width ≤ length (now ring) * 8) × (next < slots) × (j ≤ slots) ⌝ }
     ensures { λ r. ⌜ r ≡ sumNewest (field width (now (ring .entry))) slots next j ⌝ }
 {
-    let mut sum: u64 = 0;
-    let mut slot = next;
-    let mut i = 0;
-    while i < j {
-        slot = before(slots, slot);
-        sum += get(width, ring, slot);
-        i += 1;
+    if j <= next {
+        return sum_last(width, ring, next, j);
     }
-    sum
+    sum_last(width, ring, next, next) + sum_last(width, ring, slots, j - next)
 }
 
 // Sets the first n bytes to 0.

@@ -1,4 +1,4 @@
-// Words of one to three bytes, the highest byte first. A slot of at most 16 bits lies within three bytes.
+// Words of one to four bytes, the highest byte first. A slot of at most 16 bits lies within three bytes.
 ghost use mathlib.Core.Path.{_≡_};
 ghost use mathlib.Core.List.{_++_};
 ghost use Prim.Native.Nat.{_+_, _≤_, _<_, _*_, _/_, _%_, _^_};
@@ -33,6 +33,16 @@ pub(crate) fn load(ring: &[u8], first: usize, count: usize) -> u64
         return two;
     }
     two * 256 + wide(ring[first + 2])
+}
+
+// The number that the four bytes from `first` on write. (The compiler makes one load of the four.)
+pub(crate) fn load_four(ring: &[u8], first: usize) -> u64
+    requires { ⌜ first + 4 ≤ length (now ring) ⌝ }
+    ensures { λ r. ⌜ r ≡ number (bits (take 4 (drop first (now (ring .entry))))) ⌝ }
+{
+    let two = wide(ring[first]) * 256 + wide(ring[first + 1]);
+    let three = two * 256 + wide(ring[first + 2]);
+    three * 256 + wide(ring[first + 3])
 }
 
 // Puts the lowest `count` bytes of `word` in the place of the bytes from `first` on.

@@ -2,12 +2,12 @@
 -- Assumes nothing.
 use Prim.Native.Nat.{_*_, _≤_}
 use native.Mathlib.Omega.{arith}
-use native.Mathlib.Nat.{mul-le-mul}
+use Rattle.ring.proofs.Words.{first-bit-le}
 use Rattle.ring.proofs.slot.locate.Statement.{statement}
 use Rattle.ring.proofs.slot.locate.Tie as tie
 
 from-le : (c : tie.Start) → c .args .slot * c .args .width ≤ 65520
-from-le c = mul-le-mul {n₂ = 4095} {m₂ = 16} (omega arith) (c .pre .1)
+from-le c = first-bit-le (c .args .width) (c .args .slot) (c .pre .1) (c .pre .2)
 
 mul-from : tie.Need-mul-from
 mul-from c = omega (arith, from-le c)
