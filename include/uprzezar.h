@@ -1,7 +1,7 @@
 /*
  * Uprzezar: a small book of frame counts for a camera box, and the reading and comparing of its pictures.
  *
- * C99, and C++. Link target/staticlib/libuprzezar.a, which `rt staticlib uprzezar` writes; it needs no other library, allocates nothing
+ * C99, and C++. Link target/staticlib/libuprzezar.a, which `rt staticlib uprzezar` writes; it needs nothing but memset, allocates nothing
  * and keeps nothing between calls.
  *
  * What you must keep:
@@ -134,10 +134,15 @@ UPRZEZAR_ASSERT(offsetof(uprzezar_numbers, start) == 32 && offsetof(uprzezar_num
 UPRZEZAR_ASSERT(sizeof(uprzezar_raster_place) == 24 && offsetof(uprzezar_raster_place, offset) == 8, "raster place");
 UPRZEZAR_ASSERT(offsetof(uprzezar_raster_place, length) == 16, "raster place");
 
+/* No book's ring takes more bytes. */
+#define UPRZEZAR_RING_MOST 8192
+
 /* The book. */
 
-/* Opens a book: items up to `bound`, windows up to `length`, figures short by less than `tolerance`. Clears the bytes that the ring takes,
-   ceil(s * b / 8) of them (see the README), and leaves those behind them alone. Refusals: 1, 2, 3, 4. */
+/* Opens a book: items up to `bound`, windows up to `length`, figures short by less than `tolerance`. Clears the bytes that the ring takes
+   and leaves those behind them alone. With blocks of c = max(1, tolerance / bound) items, s = ceil(length / c) slots and b binary digits
+   in z = ceil(c * bound / tolerance), these are ceil(s * b / 8) bytes, at most UPRZEZAR_RING_MOST. (For bound 600, length 1,440 and
+   tolerance 3,600: c 6, s 240, z 1, b 1, so 30 bytes.) Refusals: 1, 2, 3, 4. */
 uprzezar_updated uprzezar_open(uint64_t bound, uint64_t length, uint64_t tolerance, uint8_t *ring, size_t ring_bytes);
 
 /* Adds one item. Refusals: 8, 4, 7. */

@@ -56,6 +56,46 @@ fn add_by_value(mut book: Book, ring: &mut [u8], item: u64) -> (Result<(), Refus
     (book.add(ring, item), book)
 }
 
+/// Items that are added one after the other, each to the record that the last one left.
+#[derive(Clone)]
+struct Run {
+    book: Book,
+    ring: Vec<u8>,
+    items: Vec<u64>,
+}
+
+impl Run {
+    fn in_place(mut self) -> Repeated {
+        repeated(move || {
+            let mut next = black_box(self.book);
+            for &item in &self.items {
+                next.add(&mut self.ring, item).expect("an item within the bound");
+            }
+            next
+        })
+    }
+
+    fn by_value(mut self) -> Repeated {
+        repeated(move || {
+            let mut next = black_box(self.book);
+            for &item in &self.items {
+                next = add_by_value(next, &mut self.ring, item).1;
+            }
+            next
+        })
+    }
+
+    fn proved(mut self) -> Repeated {
+        repeated(move || {
+            let mut next = black_box(crossed(self.book));
+            for &item in &self.items {
+                next = proved::add(next, &mut self.ring, item).book;
+            }
+            next
+        })
+    }
+}
+
 fn book_cases(cases: &mut Vec<Case>, setting: &str, bound: u64, length: u64, tolerance: u64) {
     let (book, ring) = filled(bound, length, tolerance);
     let record = crossed(book);
@@ -70,45 +110,16 @@ fn book_cases(cases: &mut Vec<Case>, setting: &str, bound: u64, length: u64, tol
         }),
         proved: repeated(move || proved::add(black_box(record), &mut ring_b, black_box(item))),
     });
-    let (mut ring_a, mut ring_b) = (ring.clone(), ring.clone());
-    let items: Vec<u64> = (0..RUN).map(|i| i * 7919 % (bound + 1)).collect();
-    let same_items = items.clone();
+    let run = Run { book, ring: ring.clone(), items: (0..RUN).map(|i| i * 7919 % (bound + 1)).collect() };
     cases.push(Case {
         name: format!("run of 1,000 adds, {setting}"),
-        plain: repeated(move || {
-            let mut next = black_box(book);
-            for &item in &items {
-                next.add(&mut ring_a, item).expect("an item within the bound");
-            }
-            next
-        }),
-        proved: repeated(move || {
-            let mut next = black_box(record);
-            for &item in &same_items {
-                next = proved::add(next, &mut ring_b, item).book;
-            }
-            next
-        }),
+        plain: run.clone().in_place(),
+        proved: run.clone().proved(),
     });
-    let (mut ring_a, mut ring_b) = (ring.clone(), ring.clone());
-    let items: Vec<u64> = (0..RUN).map(|i| i * 7919 % (bound + 1)).collect();
-    let same_items = items.clone();
     cases.push(Case {
         name: format!("the same, the record by value on both sides, {setting}"),
-        plain: repeated(move || {
-            let mut next = black_box(book);
-            for &item in &items {
-                next = add_by_value(next, &mut ring_a, item).1;
-            }
-            next
-        }),
-        proved: repeated(move || {
-            let mut next = black_box(record);
-            for &item in &same_items {
-                next = proved::add(next, &mut ring_b, item).book;
-            }
-            next
-        }),
+        plain: run.clone().by_value(),
+        proved: run.proved(),
     });
     let (ring_a, ring_b) = (a.clone(), b.clone());
     cases.push(Case {

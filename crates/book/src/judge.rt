@@ -1,6 +1,8 @@
 // Which refusal a call of the book gets, 0 for none: each function goes down the list of faults of specs/Calls.antt.
 ghost use mathlib.Core.Path.{_≡_};
-ghost use Rattle.refusals.specs.First.{firstOf};
+ghost use mathlib.Core.List.{[], _∷_, _++_};
+ghost use lib.Dec.{ltb};
+ghost use Rattle.refusals.specs.First.{firstOf, _gives_};
 ghost use Rattle.book.specs.Sound.{Ranges};
 ghost use Rattle.book.specs.Calls.{numberFaults, rangeFaults, stateFaults, bookFaults, askFaults, openRefusal, addRefusal, totalRefusal, verdictRefusal};
 use crate::Book;
@@ -94,30 +96,30 @@ fn usable(book: Book, lent: u64) -> u8
     0
 }
 
+// 8, 4, then the refusal for a number above the most that it may be.
+fn usable_up_to(book: Book, lent: u64, most: u64, number: u64, refusal: u8) -> u8
+    ensures { λ r. ⌜ r ≡ firstOf (bookFaults book lent ++ (ltb most number gives refusal) ∷ []) ⌝ }
+{
+    let earlier = usable(book, lent);
+    if earlier != 0 {
+        return earlier;
+    }
+    if most < number {
+        return refusal;
+    }
+    0
+}
+
 pub(crate) fn add(book: Book, lent: u64, item: u64) -> u8
     ensures { λ r. ⌜ r ≡ addRefusal book lent item ⌝ }
 {
-    let refusal = usable(book, lent);
-    if refusal != 0 {
-        return refusal;
-    }
-    if book.bound < item {
-        return ITEM_TOO_LARGE;
-    }
-    0
+    usable_up_to(book, lent, book.bound, item, ITEM_TOO_LARGE)
 }
 
 pub(crate) fn total(book: Book, lent: u64, window: u64) -> u8
     ensures { λ r. ⌜ r ≡ totalRefusal book lent window ⌝ }
 {
-    let refusal = usable(book, lent);
-    if refusal != 0 {
-        return refusal;
-    }
-    if book.kept < window {
-        return WINDOW_TOO_LONG;
-    }
-    0
+    usable_up_to(book, lent, book.kept, window, WINDOW_TOO_LONG)
 }
 
 // 8, 4, then 6: what a question about an amount asks first.

@@ -33,6 +33,11 @@ first-stops earlier later n e ne =
 pub first-goes-on : (earlier later : List Fault) → firstOf earlier ≡ 0 → firstOf (earlier ++ later) ≡ firstOf later
 first-goes-on earlier later e = first-append earlier later ∙ ap (λ (k : ℕ). orElse k (firstOf later)) e
 
+-- a fault that holds gives its number, alone in a list
+pub first-alone : (number : ℕ) → firstOf ((true gives number) ∷ []) ≡ number
+first-alone zero = refl
+first-alone (suc number) = refl
+
 -- where a list gives no number, its first fault does not hold and the rest gives none
 pub first-passed : (holds : Bool) (number : ℕ) (later : List Fault)
     → firstOf ((holds gives suc number) ∷ later) ≡ 0 → (holds ≡ false) × (firstOf later ≡ 0)

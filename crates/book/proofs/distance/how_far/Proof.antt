@@ -6,9 +6,11 @@ use mathlib.Core.Path.{_≡_, refl, sym, ap, ap₂, _∙_}
 use native.Mathlib.Omega.{arith}
 use denote.Ref.{now}
 use native.Mathlib.Nat.{mul-le-mul}
+use Rattle.book.specs.declared.Book.{Book}
+use Rattle.book.specs.declared.distance.Stop.{Stop}
 use Rattle.book.specs.Record.{blockOf, slotsOf, heldIn}
 use Rattle.book.specs.HowFar.{howFarBack}
-use Rattle.book.specs.Stops.{ahead, oldest, furthest}
+use Rattle.book.specs.Stops.{Stopped, ahead, oldest, furthest}
 use Rattle.book.proofs.Bounds.{block-high}
 use Rattle.book.proofs.Steps.{slots-top, carry-top, held-le}
 use Rattle.book.proofs.Walking.{oldest-top}
@@ -74,46 +76,56 @@ mul-window c = omega (arith, blocks-le c)
 add-window : tie.Need-add-window
 add-window c = omega (arith, blocks-le (c .before), c .before .before .before .before .before .before .before .before .before .before .before .pre .0 .kept-low, c .before .before .before .before .before .before .before .before .before .before .before .pre .0 .kept-high, c .before .before .before .before .before .before .before .before .before .before .before .pre .0 .ranges .length-high)
 
+-- What is known once the places are: the end of the block where the walk stopped reaches the amount, and where in that block the window ends.
+module _ (c : tie.After-places) where
+  abbrev asked : Book
+  asked = c .before .before .before .before .before .before .before .before .args .book
+
+  abbrev held : ℕ → ℕ
+  held = heldIn asked (now (c .before .before .before .before .before .before .before .before .args .ring))
+
+  abbrev amount : ℕ
+  amount = c .before .before .before .before .before .before .before .before .args .amount
+
+  abbrev stop : Stop
+  stop = c .before .before .before .before .before .before .walk .result
+
+  stopped : Stopped asked held amount stop
+  stopped = c .before .before .before .before .before .before .walk .ensures
+
+  end-is : c .before .before .before .before .before .end-figure .result ≡ ahead asked held (stop .blocks)
+  end-is = c .before .before .before .before .before .end-figure .ensures ∙ ap (λ (t : ℕ). t - (asked .tolerance - 1)) (stopped .total-is)
+
+  reached : amount ≤ ahead asked held (stop .blocks)
+  reached = rw end-is at (c .before .before .before .before .if1 .left)
+
+  placed : c .places .result
+      ≡ min (furthest asked (stop .blocks)) ((ahead asked held (stop .blocks) - amount) / (asked .bound * oldest asked held (stop .blocks)))
+  placed =
+      c .places .ensures ∙ (λ i. min (c .before .before .before .most-places .ensures i) ((end-is i - amount) / (asked .bound * stopped .quotient-is i)))
+
+  fits : c .places .result < asked .phase + stop .blocks * blockOf asked
+  fits =
+      place-fits asked (c .before .before .before .before .before .before .before .before .pre .0) held amount (c .before .before .before .before .before .before .before .before .pre .2) stop stopped reached (c .places .result) placed
+
+  named : asked .phase + stop .blocks * blockOf asked - c .places .result ≤ asked .kept
+      → howFarBack asked (now (c .before .before .before .before .before .before .before .before .args .ring)) amount ≡ asked .phase + stop .blocks * blockOf asked - c .places .result
+  unfolding howFarBack
+  named = found asked (c .before .before .before .before .before .before .before .before .pre .0) held amount (c .before .before .before .before .before .before .before .before .pre .2) stop stopped reached (c .places .result) placed
+
+  unnamed : asked .kept < asked .phase + stop .blocks * blockOf asked - c .places .result
+      → howFarBack asked (now (c .before .before .before .before .before .before .before .before .args .ring)) amount ≡ 0
+  unfolding howFarBack
+  unnamed = past asked (c .before .before .before .before .before .before .before .before .pre .0) held amount (c .before .before .before .before .before .before .before .before .pre .2) stop stopped reached (c .places .result) placed
+
 sub-window : tie.Need-sub-window
-sub-window c = let b = c .before .before .before .before .before .before .before .before .before .before .before .args .book in
-    let p = c .before .before .before .before .before .before .before .before .before .before .before .pre in
-    let v = c .before .before .before .before .before .before .before .before .before .before .before .args .amount in
-    let stop = c .before .before .before .before .before .before .before .before .before .walk .result in
-    let s = c .before .before .before .before .before .before .before .before .before .walk .ensures in
-    let h = heldIn b (now (c .before .before .before .before .before .before .before .before .before .before .before .args .ring)) in
-    let reached : v ≤ ahead b h (stop .blocks) = rw ((c .before .before .before .before .before .before .before .before .end-figure .ensures ∙ ap (λ (t : ℕ). t - (b .tolerance - 1)) (s .total-is))) at (c .before .before .before .before .before .before .before .if1 .left) in
-    let e : c .before .before .before .places .result ≡ min (furthest b (stop .blocks)) ((ahead b h (stop .blocks) - v) / (b .bound * oldest b h (stop .blocks))) =
-    c .before .before .before .places .ensures
-    ∙ (λ i. min (c .before .before .before .before .before .before .most-places .ensures i) (((c .before .before .before .before .before .before .before .before .end-figure .ensures ∙ ap (λ (t : ℕ). t - (b .tolerance - 1)) (s .total-is)) i - v) / (b .bound * s .quotient-is i))) in
-    rw (c .before .before .block-length .ensures) (omega (arith, place-fits b (p .0) h v (p .2) stop s reached (c .before .before .before .places .result) e))
+sub-window c = rw (c .before .before .block-length .ensures) (omega (arith, fits (c .before .before .before)))
 
 returns-2 : tie.Need-returns-2
-unfolding howFarBack
-returns-2 c = let b = c .before .before .before .before .before .before .before .before .before .before .before .before .before .args .book in
-    let p = c .before .before .before .before .before .before .before .before .before .before .before .before .before .pre in
-    let v = c .before .before .before .before .before .before .before .before .before .before .before .before .before .args .amount in
-    let stop = c .before .before .before .before .before .before .before .before .before .before .before .walk .result in
-    let s = c .before .before .before .before .before .before .before .before .before .before .before .walk .ensures in
-    let h = heldIn b (now (c .before .before .before .before .before .before .before .before .before .before .before .before .before .args .ring)) in
-    let reached : v ≤ ahead b h (stop .blocks) = rw ((c .before .before .before .before .before .before .before .before .before .before .end-figure .ensures ∙ ap (λ (t : ℕ). t - (b .tolerance - 1)) (s .total-is))) at (c .before .before .before .before .before .before .before .before .before .if1 .left) in
-    let e : c .before .before .before .before .before .places .result ≡ min (furthest b (stop .blocks)) ((ahead b h (stop .blocks) - v) / (b .bound * oldest b h (stop .blocks))) =
-    c .before .before .before .before .before .places .ensures
-    ∙ (λ i. min (c .before .before .before .before .before .before .before .before .most-places .ensures i) (((c .before .before .before .before .before .before .before .before .before .before .end-figure .ensures ∙ ap (λ (t : ℕ). t - (b .tolerance - 1)) (s .total-is)) i - v) / (b .bound * s .quotient-is i))) in
-    sym (past b (p .0) h v (p .2) stop s reached (c .before .before .before .before .before .places .result) e (rw (c .before .before .before .before .block-length .ensures) at (c .if2 .taken)))
+returns-2 c = sym (unnamed (c .before .before .before .before .before) (rw (c .before .before .before .before .block-length .ensures) at (c .if2 .taken)))
 
 returns-3 : tie.Need-returns-3
-unfolding howFarBack
-returns-3 c = let b = c .before .before .before .before .before .before .before .before .before .before .before .before .before .args .book in
-    let p = c .before .before .before .before .before .before .before .before .before .before .before .before .before .pre in
-    let v = c .before .before .before .before .before .before .before .before .before .before .before .before .before .args .amount in
-    let stop = c .before .before .before .before .before .before .before .before .before .before .before .walk .result in
-    let s = c .before .before .before .before .before .before .before .before .before .before .before .walk .ensures in
-    let h = heldIn b (now (c .before .before .before .before .before .before .before .before .before .before .before .before .before .args .ring)) in
-    let reached : v ≤ ahead b h (stop .blocks) = rw ((c .before .before .before .before .before .before .before .before .before .before .end-figure .ensures ∙ ap (λ (t : ℕ). t - (b .tolerance - 1)) (s .total-is))) at (c .before .before .before .before .before .before .before .before .before .if1 .left) in
-    let e : c .before .before .before .before .before .places .result ≡ min (furthest b (stop .blocks)) ((ahead b h (stop .blocks) - v) / (b .bound * oldest b h (stop .blocks))) =
-    c .before .before .before .before .before .places .ensures
-    ∙ (λ i. min (c .before .before .before .before .before .before .before .before .most-places .ensures i) (((c .before .before .before .before .before .before .before .before .before .before .end-figure .ensures ∙ ap (λ (t : ℕ). t - (b .tolerance - 1)) (s .total-is)) i - v) / (b .bound * s .quotient-is i))) in
-    rw (c .before .before .before .before .block-length .ensures) (sym (found b (p .0) h v (p .2) stop s reached (c .before .before .before .before .before .places .result) e (rw (c .before .before .before .before .block-length .ensures) at (c .if2 .left))))
+returns-3 c = rw (c .before .before .before .before .block-length .ensures) (sym (named (c .before .before .before .before .before) (rw (c .before .before .before .before .block-length .ensures) at (c .if2 .left))))
 
 pub how-far-spec : {M : Type 1} → statement M
 how-far-spec =
