@@ -45,6 +45,7 @@ fn filled(bound: u64, length: u64, tolerance: u64) -> (Book, Vec<u8>) {
     (book, ring)
 }
 
+/// The plain record as the library takes it.
 pub fn crossed(book: Book) -> proved::Book {
     let Book { bound, length, tolerance, carry, phase, kept, head } = book;
     proved::Book { bound, length, tolerance, carry, phase, kept, head }

@@ -2,6 +2,7 @@
 //!
 //!     differ [ROUNDS]    each round makes one call of each kind (default 1,000,000)
 
+use bench::cases::crossed;
 use bench::chance::Chance;
 use bench::plain::book::{Book, Verdict};
 use bench::plain::{image, ring, score, Refusal};
@@ -30,11 +31,6 @@ fn number(result: Result<u64, Refusal>) -> proved::Answer {
 
 fn refusal_of(result: Result<(), Refusal>) -> u8 {
     result.map_or_else(|refusal| refusal as u8, |()| 0)
-}
-
-fn crossed(book: Book) -> proved::Book {
-    let Book { bound, length, tolerance, carry, phase, kept, head } = book;
-    proved::Book { bound, length, tolerance, carry, phase, kept, head }
 }
 
 /// A number at or beside a limit, or anywhere up to it, or anything at all.
