@@ -13,6 +13,10 @@
  * answer is proved to be the one that the scope of work lays down. A refusal comes as a number above 0; then the other numbers of the
  * answer are 0, the record is handed back as it came (opening hands back zeros), and no lent byte has changed. Where several refusals
  * apply, the first in the order given at the function is the one.
+ *
+ * A book from a good start is one that uprzezar_open opened, whose latest record is handed in, with a ring that nothing else has changed.
+ * What is said below of true totals holds for such a book. Any other record, or ring, still gets the one answer that is laid down for it;
+ * only, that answer says nothing of the items that were added.
  */
 #ifndef UPRZEZAR_H
 #define UPRZEZAR_H
@@ -46,13 +50,27 @@ enum {
     UPRZEZAR_IMAGES_DIFFER = 16    /* the two images differ in width, height or maxval */
 };
 
-/* The verdicts. */
+/* The verdicts, as they hold for a book from a good start. */
 enum {
     UPRZEZAR_NO_VERDICT = 0,
     UPRZEZAR_LIVE = 1,      /* the window truly holds the amount */
     UPRZEZAR_FROZEN = 2,    /* the window truly holds less */
-    UPRZEZAR_UNDECIDED = 3  /* the tolerance leaves it open */
+    UPRZEZAR_UNDECIDED = 3  /* every other case: nothing is claimed */
 };
+
+/* What follows from a book's bound, length and tolerance. */
+typedef struct {
+    uint64_t block;   /* items a block: max(1, tolerance / bound) */
+    uint64_t slots;   /* slots of the ring: ceil(length / block) */
+    uint64_t largest; /* the largest number that a slot must hold: ceil(block * bound / tolerance) */
+    uint64_t width;   /* bits a slot: as many as `largest` has binary digits */
+    uint64_t bytes;   /* bytes of the ring: ceil(slots * width / 8), at most UPRZEZAR_RING_MOST */
+} uprzezar_shape_numbers;
+
+typedef struct {
+    uint8_t refusal;
+    uprzezar_shape_numbers shape;
+} uprzezar_shaped;
 
 /* The record of a book. Start from uprzezar_open, and hand each call the record that the last one gave back. */
 typedef struct {
@@ -118,6 +136,10 @@ typedef struct {
 #define UPRZEZAR_ASSERT(holds, says) extern int uprzezar_layout[(holds) ? 1 : -1]
 #endif
 UPRZEZAR_ASSERT(sizeof(size_t) == 8, "64 bits");
+UPRZEZAR_ASSERT(sizeof(uprzezar_shape_numbers) == 40 && offsetof(uprzezar_shape_numbers, slots) == 8, "shape numbers");
+UPRZEZAR_ASSERT(offsetof(uprzezar_shape_numbers, largest) == 16 && offsetof(uprzezar_shape_numbers, width) == 24, "shape numbers");
+UPRZEZAR_ASSERT(offsetof(uprzezar_shape_numbers, bytes) == 32, "shape numbers");
+UPRZEZAR_ASSERT(sizeof(uprzezar_shaped) == 48 && offsetof(uprzezar_shaped, shape) == 8, "shaped");
 UPRZEZAR_ASSERT(sizeof(uprzezar_book) == 56, "book");
 UPRZEZAR_ASSERT(offsetof(uprzezar_book, length) == 8 && offsetof(uprzezar_book, tolerance) == 16, "book");
 UPRZEZAR_ASSERT(offsetof(uprzezar_book, carry) == 24 && offsetof(uprzezar_book, phase) == 32, "book");
@@ -139,17 +161,19 @@ UPRZEZAR_ASSERT(offsetof(uprzezar_raster_place, length) == 16, "raster place");
 
 /* The book. */
 
+/* The numbers of a book, before it is opened. (For bound 600, length 1,440 and tolerance 3,600: block 6, slots 240, largest 1, width 1,
+   bytes 30.) Refusals: 1, 2, 3. */
+uprzezar_shaped uprzezar_shape(uint64_t bound, uint64_t length, uint64_t tolerance);
+
 /* Opens a book: items up to `bound`, windows up to `length`, figures short by less than `tolerance`. Clears the bytes that the ring takes
-   and leaves those behind them alone. With blocks of c = max(1, tolerance / bound) items, s = ceil(length / c) slots and b binary digits
-   in z = ceil(c * bound / tolerance), these are ceil(s * b / 8) bytes, at most UPRZEZAR_RING_MOST. (For bound 600, length 1,440 and
-   tolerance 3,600: c 6, s 240, z 1, b 1, so 30 bytes.) Refusals: 1, 2, 3, 4. */
+   and leaves those behind them alone; how many bytes to lend, uprzezar_shape tells. Refusals: 1, 2, 3, 4. */
 uprzezar_updated uprzezar_open(uint64_t bound, uint64_t length, uint64_t tolerance, uint8_t *ring, size_t ring_bytes);
 
 /* Adds one item. Refusals: 8, 4, 7. */
 uprzezar_updated uprzezar_add(uprzezar_book book, uint8_t *ring, size_t ring_bytes, uint64_t item);
 
-/* The figure for the last `window` items: never above their true total, and short of it by less than the tolerance. A window of 0 gives 0.
-   Refusals: 8, 4, 5. */
+/* The figure for the last `window` items: for a book from a good start never above their true total, and short of it by less than the
+   tolerance. A window of 0 gives 0. Refusals: 8, 4, 5. */
 uprzezar_figure uprzezar_total(uprzezar_book book, const uint8_t *ring, size_t ring_bytes, uint64_t window);
 
 /* How far back for an amount: the shortest window whose figure reaches it. Refusals: 8, 4, 6, 9. */

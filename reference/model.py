@@ -114,9 +114,14 @@ def slot_count(L, n, D):
     return ceil_div(n, block_length(L, D))
 
 
+def largest_quotient(L, D):
+    """z: c·L by D, rounded up."""
+    return ceil_div(block_length(L, D) * L, D)
+
+
 def field_width(L, D):
-    """b: the binary digits of z, which is c·L by D, rounded up."""
-    return ceil_div(block_length(L, D) * L, D).bit_length()
+    """b: how many binary digits z has."""
+    return largest_quotient(L, D).bit_length()
 
 
 def book_bytes(L, n, D):
@@ -132,6 +137,14 @@ def numbers_refusal(L, n, D):
     if not 1 <= D <= n * L:
         return 3
     return 0
+
+
+def shape(L, n, D):
+    """1, 2, 3; then c, s, z, b and B."""
+    refusal = numbers_refusal(L, n, D)
+    if refusal:
+        return refusal, 0, 0, 0, 0, 0
+    return 0, block_length(L, D), slot_count(L, n, D), largest_quotient(L, D), field_width(L, D), book_bytes(L, n, D)
 
 
 def is_book(r):
@@ -346,6 +359,8 @@ def score(L, a, first, second):
 # --- lines ------------------------------------------------------------------------------------------------------------
 
 MOST_BYTES = 32768
+# The program's own limit: a line that fills its buffer of 262,144 bytes cannot be read.
+LONGEST_LINE = 262143
 
 
 class Unreadable(Exception):
@@ -408,11 +423,16 @@ CALLS = {
     "verdict": (verdict, (R, Y, N, N)),
     "pgm": (pgm, (Y,)),
     "score": (score, (N, A, Y, Y)),
+    "shape": (shape, (N, N, N)),
 }
 
 
 def answer(line):
-    """The answer to one line, both without the line feed."""
+    """The answer to one line, both without the line feed. A name is its own answer."""
+    if len(line) > LONGEST_LINE:
+        return "?"
+    if line.startswith("#"):
+        return line
     fields = line.split(" ")
     call, kinds = CALLS.get(fields[0], (None, ()))
     if call is None or len(fields) != 1 + len(kinds):

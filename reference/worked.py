@@ -1,43 +1,69 @@
 """Figures worked by hand, as calls and answers: paper 01's cases A to G, and the lines of the vectors' format.
 
-The model is held to them each time the vectors are made.
+The model is held to them each time the vectors are made. They stand first in the section of their name.
 """
 
 import model
 
 A = "5,6,10,13,1,6,0 40"
 
-FORMAT = [
-    ("open 5 6 10 ff", "0 5,6,10,0,0,0,0 00"),
-    ("add 5,6,10,13,1,6,0 40 2", "0 5,6,10,5,0,6,1 c0"),
-    ("total 5,6,10,13,1,6,0 40 5", "0 14"),
-    ("far 5,6,10,13,1,6,0 40 15", "9 0"),
-    ("verdict 5,6,10,13,1,6,0 40 4 18", "0 undecided 9"),
-    ("pgm 50350a322032203235350a00000000", "0 2 2 255 15 11 4"),
-]
-
-CASES = [
-    *((f"total {A} {i}", f"0 {figure}") for i, figure in enumerate([0, 4, 4, 4, 9, 14, 14])),
-    (f"total {A} 7", "5 0"),
-    *((f"far {A} {v}", answer) for v, answer in [(4, "0 1"), (5, "0 4"), (14, "0 5"), (15, "9 0")]),
-    *((f"verdict {A} 4 {v}", f"0 {word} 9") for v, word in [(9, "live"), (10, "undecided"), (18, "undecided"), (19, "frozen")]),
-    ("total 5,6,10,5,0,6,1 c0 6", "0 16"),
-    *((f"total 3,4,2,1,0,4,0 21 {i}", f"0 {figure}") for i, figure in [(1, 2), (2, 2), (3, 6), (4, 6)]),
-    *((f"total 9,3,1,0,0,3,1 2040 {i}", f"0 {figure}") for i, figure in [(1, 2), (2, 6), (3, 6)]),
-    ("open 5 3 15 ff", "0 5,3,15,0,0,0,0 00"),
-    ("open 5 3 16 ff", "3 0,0,0,0,0,0,0 ff"),
-    (f"add {A} 6", f"7 {A}"),
-    ("add 5,6,10,13,1,6,0 - 5", "4 5,6,10,13,1,6,0 -"),
-    ("open 5 6 10 -", "4 0,0,0,0,0,0,0 -"),
-    ("far 5,6,10,0,0,0,0 00 1", "9 0"),
-    ("total 5,6,10,0,0,0,0 00 0", "0 0"),
-    ("total 5,6,10,0,0,0,0 00 1", "5 0"),
-    ("pgm -", "14 0 0 0 0 0 0"),
-    (f"pgm {b'P5 1025 '.hex()}", "12 0 0 0 0 0 0"),
-    (f"pgm {b'P5 1024 '.hex()}", "14 0 0 0 0 0 0"),
-    (f"pgm {b'P5 1 1 256 '.hex()}", "12 0 0 0 0 0 0"),
-    (f"pgm {b'P5 1 1 255 '.hex()}", "14 0 0 0 0 0 0"),
-]
+FIGURES = {
+    "lines of the format": [
+        ("open 5 6 10 ff", "0 5,6,10,0,0,0,0 00"),
+        ("add 5,6,10,13,1,6,0 40 2", "0 5,6,10,5,0,6,1 c0"),
+        ("total 5,6,10,13,1,6,0 40 5", "0 14"),
+        ("far 5,6,10,13,1,6,0 40 15", "9 0"),
+        ("verdict 5,6,10,13,1,6,0 40 4 18", "0 undecided 9"),
+        ("pgm 50350a322032203235350a00000000", "0 2 2 255 15 11 4"),
+    ],
+    "case A: windows": [
+        *((f"total {A} {i}", f"0 {figure}") for i, figure in enumerate([0, 4, 4, 4, 9, 14, 14])),
+        (f"total {A} 7", "5 0"),
+        ("total 5,6,10,5,0,6,1 c0 6", "0 16"),
+    ],
+    "case A: how far back": [(f"far {A} {v}", answer) for v, answer in [(4, "0 1"), (5, "0 4"), (14, "0 5"), (15, "9 0")]],
+    "case A: verdicts": [
+        (f"verdict {A} 4 {v}", f"0 {word} 9") for v, word in [(9, "live"), (10, "undecided"), (18, "undecided"), (19, "frozen")]
+    ],
+    "case B: record, ring and windows": [
+        (f"total 3,4,2,1,0,4,0 21 {i}", f"0 {figure}") for i, figure in [(1, 2), (2, 2), (3, 6), (4, 6)]
+    ],
+    "case C: record, ring and windows": [
+        (f"total 9,3,1,0,0,3,1 2040 {i}", f"0 {figure}") for i, figure in [(1, 2), (2, 6), (3, 6)]
+    ],
+    "case D: slots and tolerance": [
+        ("open 5 3 15 ff", "0 5,3,15,0,0,0,0 00"),
+        ("open 5 3 16 ff", "3 0,0,0,0,0,0,0 ff"),
+    ],
+    "case E: items and a ring of no bytes": [
+        (f"add {A} 5", "0 5,6,10,8,0,6,1 c0"),
+        (f"add {A} 6", f"7 {A}"),
+        ("add 5,6,10,13,1,6,0 - 5", "4 5,6,10,13,1,6,0 -"),
+        ("open 5 6 10 -", "4 0,0,0,0,0,0,0 -"),
+    ],
+    "case F: kept 0": [
+        ("far 5,6,10,0,0,0,0 00 1", "9 0"),
+        ("total 5,6,10,0,0,0,0 00 0", "0 0"),
+        ("total 5,6,10,0,0,0,0 00 1", "5 0"),
+    ],
+    "case G: ranges of width, height and maxval": [
+        ("pgm -", "14 0 0 0 0 0 0"),
+        (f"pgm {b'P5 1025 '.hex()}", "12 0 0 0 0 0 0"),
+        (f"pgm {b'P5 1024 '.hex()}", "14 0 0 0 0 0 0"),
+        (f"pgm {b'P5 1 1 256 '.hex()}", "12 0 0 0 0 0 0"),
+        (f"pgm {b'P5 1 1 255 '.hex()}", "14 0 0 0 0 0 0"),
+    ],
+    # What paper 01 says of cases A to D and of the program's setting, its blanks filled by the same rules.
+    "shapes": [
+        ("shape 5 6 10", "0 2 3 1 1 1"),
+        ("shape 3 4 2", "0 1 4 2 2 1"),
+        ("shape 9 3 1", "0 1 3 9 4 2"),
+        ("shape 5 3 10", "0 2 2 1 1 1"),
+        ("shape 5 3 15", "0 3 1 1 1 1"),
+        ("shape 5 3 16", "3 0 0 0 0 0"),
+        ("shape 600 1440 3600", "0 6 240 1 1 30"),
+    ],
+}
 
 # L, n, D, the items, and the record and ring that they leave.
 LIVES = [
@@ -46,6 +72,11 @@ LIVES = [
     (3, 4, 2, [1, 3, 0, 3], "3,4,2,1,0,4,0 21"),
     (9, 3, 1, [9, 0, 4, 2], "9,3,1,0,0,3,1 2040"),
 ]
+
+
+def lines(section):
+    """The calls whose answers are worked by hand, of one section."""
+    return [line for line, _ in FIGURES.get(section, [])]
 
 
 def after(L, n, D, items):
@@ -58,7 +89,7 @@ def after(L, n, D, items):
 
 def faults():
     """What the model gets wrong of all this, in words; nothing, it is hoped."""
-    for line, expected in FORMAT + CASES:
+    for line, expected in (figure for figures in FIGURES.values() for figure in figures):
         if model.answer(line) != expected:
             yield f"{line}: the model answers {model.answer(line)}, worked by hand {expected}"
     for L, n, D, items, expected in LIVES:

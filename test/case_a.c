@@ -1,4 +1,4 @@
-/* Case A of the scope of work, through the header, and the small pictures of its program. */
+/* Case A of the scope of work, through the header, and the small pictures of its program; the shapes of its book and of the box's. */
 #include "../include/uprzezar.h"
 
 #include <inttypes.h>
@@ -14,6 +14,21 @@ static uprzezar_book state(uprzezar_updated answer, const uint8_t *ring) {
     printf("refusal %u: carry %" PRIu64 ", phase %" PRIu64 ", kept %" PRIu64 ", head %" PRIu64 ", ring %02x\n", answer.refusal, b.carry,
            b.phase, b.kept, b.head, ring[0]);
     return b;
+}
+
+static void shape(uint64_t bound, uint64_t length, uint64_t tolerance) {
+    uprzezar_shaped a = uprzezar_shape(bound, length, tolerance);
+    printf("shape of %" PRIu64 ", %" PRIu64 ", %" PRIu64 ": refusal %u, block %" PRIu64 ", slots %" PRIu64 ", largest %" PRIu64
+           ", width %" PRIu64 ", bytes %" PRIu64 "\n",
+           bound, length, tolerance, a.refusal, a.shape.block, a.shape.slots, a.shape.largest, a.shape.width, a.shape.bytes);
+}
+
+static void shapes(void) {
+    shape(5, 6, 10);
+    shape(600, 1440, 3600);
+    shape(65536, 0, 0);
+    shape(5, 4097, 0);
+    shape(5, 6, 31);
 }
 
 static void book(void) {
@@ -68,6 +83,7 @@ static void slots(void) {
 }
 
 int main(void) {
+    shapes();
     book();
     pictures();
     slots();

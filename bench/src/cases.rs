@@ -1,7 +1,7 @@
 //! The calls that are measured, each on both sides with the same arguments.
 
 use crate::chance::Chance;
-use crate::plain::book::Book;
+use crate::plain::book::{Book, Shape};
 use crate::plain::{image, score, Refusal};
 use crate::proved;
 use std::hint::black_box;
@@ -97,6 +97,16 @@ impl Run {
     }
 }
 
+fn shape_case(cases: &mut Vec<Case>, setting: &str, bound: u64, length: u64, tolerance: u64) {
+    cases.push(Case {
+        name: format!("shape, {setting}"),
+        plain: repeated(move || {
+            Shape::of(black_box(bound), black_box(length), black_box(tolerance)).map(|shape| (shape, shape.bytes()))
+        }),
+        proved: repeated(move || proved::shape(black_box(bound), black_box(length), black_box(tolerance))),
+    });
+}
+
 fn book_cases(cases: &mut Vec<Case>, setting: &str, bound: u64, length: u64, tolerance: u64) {
     let (book, ring) = filled(bound, length, tolerance);
     let record = crossed(book);
@@ -165,6 +175,7 @@ fn picture_cases(cases: &mut Vec<Case>) {
 pub fn all() -> Vec<Case> {
     let mut cases = Vec::new();
     for (setting, bound, length, tolerance) in SETTINGS {
+        shape_case(&mut cases, setting, bound, length, tolerance);
         book_cases(&mut cases, setting, bound, length, tolerance);
     }
     picture_cases(&mut cases);

@@ -12,6 +12,23 @@ pub struct Book {
     pub head: u64,
 }
 
+#[derive(Clone, Copy, Debug, Default, PartialEq, Eq)]
+#[repr(C)]
+pub struct Shape {
+    pub block: u64,
+    pub slots: u64,
+    pub largest: u64,
+    pub width: u64,
+    pub bytes: u64,
+}
+
+#[derive(Clone, Copy, Debug, PartialEq, Eq)]
+#[repr(C)]
+pub struct Shaped {
+    pub refusal: u8,
+    pub shape: Shape,
+}
+
 #[derive(Clone, Copy, Debug, PartialEq, Eq)]
 #[repr(C)]
 pub struct Updated {
@@ -59,6 +76,7 @@ extern "C" {
     fn uprzezar_ring_read(width: usize, slots: usize, ring: *const u8, bytes: usize, slot: usize) -> Answer;
     fn uprzezar_ring_write(width: usize, slots: usize, ring: *mut u8, bytes: usize, slot: usize, value: u64) -> u8;
     fn uprzezar_ring_sum(width: usize, slots: usize, ring: *const u8, bytes: usize, next: usize, newest: usize) -> Answer;
+    fn uprzezar_shape(bound: u64, length: u64, tolerance: u64) -> Shaped;
     fn uprzezar_open(bound: u64, length: u64, tolerance: u64, ring: *mut u8, bytes: usize) -> Updated;
     fn uprzezar_add(book: Book, ring: *mut u8, bytes: usize, item: u64) -> Updated;
     fn uprzezar_total(book: Book, ring: *const u8, bytes: usize, window: u64) -> Answer;
@@ -85,6 +103,10 @@ pub fn ring_write(width: usize, slots: usize, ring: &mut [u8], slot: usize, valu
 
 pub fn ring_sum(width: usize, slots: usize, ring: &[u8], next: usize, newest: usize) -> Answer {
     unsafe { uprzezar_ring_sum(width, slots, ring.as_ptr(), ring.len(), next, newest) }
+}
+
+pub fn shape(bound: u64, length: u64, tolerance: u64) -> Shaped {
+    unsafe { uprzezar_shape(bound, length, tolerance) }
 }
 
 pub fn open(bound: u64, length: u64, tolerance: u64, ring: &mut [u8]) -> Updated {

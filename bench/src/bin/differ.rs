@@ -4,7 +4,7 @@
 
 use bench::cases::crossed;
 use bench::chance::Chance;
-use bench::plain::book::{Book, Verdict};
+use bench::plain::book::{Book, Shape, Verdict};
 use bench::plain::{image, ring, score, Refusal};
 use bench::proved;
 
@@ -133,6 +133,16 @@ fn state(chance: &mut Chance) -> (Book, Vec<u8>) {
     (Book { bound, length, tolerance, carry: near(chance, most), phase, kept, head }, ring)
 }
 
+fn shaped(result: Result<Shape, Refusal>) -> proved::Shaped {
+    match result {
+        Ok(shape) => {
+            let (slots, width, bytes) = (shape.slots as u64, shape.width as u64, shape.bytes() as u64);
+            proved::Shaped { refusal: 0, shape: proved::Shape { block: shape.block, slots, largest: shape.largest, width, bytes } }
+        }
+        Err(refusal) => proved::Shaped { refusal: refusal as u8, shape: proved::Shape::default() },
+    }
+}
+
 fn opened(result: Result<Book, Refusal>) -> proved::Updated {
     match result {
         Ok(book) => proved::Updated { refusal: 0, book: crossed(book) },
@@ -145,6 +155,12 @@ fn ruled(result: Result<(Verdict, u64), Refusal>) -> proved::Ruled {
         Ok((verdict, figure)) => proved::Ruled { refusal: 0, verdict: verdict as u8 + 1, figure },
         Err(refusal) => proved::Ruled { refusal: refusal as u8, verdict: 0, figure: 0 },
     }
+}
+
+fn shape_call(chance: &mut Chance, t: &mut Tally) {
+    let (bound, length, tolerance) = setting(chance);
+    let (p, q) = (shaped(Shape::of(bound, length, tolerance)), proved::shape(bound, length, tolerance));
+    same(t, p.refusal, p, q, || format!("{bound} {length} {tolerance}"));
 }
 
 fn open_call(chance: &mut Chance, t: &mut Tally) {
@@ -274,15 +290,17 @@ fn image_calls(chance: &mut Chance, t: &mut [Tally]) {
 fn main() {
     let rounds: u64 = std::env::args().nth(1).map_or(1_000_000, |n| n.parse().expect("a number of rounds"));
     let names = [
-        "ring_clear", "ring_read", "ring_write", "ring_sum", "open", "add", "total", "far", "verdict", "header", "raster", "score",
+        "ring_clear", "ring_read", "ring_write", "ring_sum", "shape", "open", "add", "total", "far", "verdict", "header", "raster",
+        "score",
     ];
     let mut tallies = names.map(|name| Tally { name, counts: [0; 17] });
     let mut chance = Chance::new(2026);
     for _ in 0..rounds {
         slots_call(&mut chance, &mut tallies[0..4]);
-        open_call(&mut chance, &mut tallies[4]);
-        book_calls(&mut chance, &mut tallies[5..9]);
-        image_calls(&mut chance, &mut tallies[9..12]);
+        shape_call(&mut chance, &mut tallies[4]);
+        open_call(&mut chance, &mut tallies[5]);
+        book_calls(&mut chance, &mut tallies[6..10]);
+        image_calls(&mut chance, &mut tallies[10..13]);
     }
     println!("{} calls on both sides, no difference; how many with which refusal:", rounds * names.len() as u64);
     for tally in &tallies {

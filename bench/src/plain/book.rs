@@ -22,25 +22,34 @@ pub enum Verdict {
     Undecided,
 }
 
-/// What follows from L, n and D.
-struct Shape {
-    block: u64,
-    slots: usize,
-    width: usize,
+/// What follows from L, n and D: c, s, z and b of the paper, and B by `bytes`.
+#[derive(Clone, Copy, Debug)]
+pub struct Shape {
+    pub block: u64,
+    pub slots: usize,
+    pub largest: u64,
+    pub width: usize,
 }
 
 impl Shape {
+    #[inline(never)]
+    pub fn of(bound: u64, length: u64, tolerance: u64) -> Result<Shape, Refusal> {
+        check_numbers(bound, length, tolerance)?;
+        Ok(Shape::new(bound, length, tolerance))
+    }
+
     fn new(bound: u64, length: u64, tolerance: u64) -> Shape {
         let block = (tolerance / bound).max(1);
         let largest = (block * bound).div_ceil(tolerance);
         Shape {
             block,
             slots: length.div_ceil(block) as usize,
+            largest,
             width: (u64::BITS - largest.leading_zeros()) as usize,
         }
     }
 
-    fn bytes(&self) -> usize {
+    pub fn bytes(&self) -> usize {
         (self.slots * self.width).div_ceil(8)
     }
 }

@@ -5,7 +5,7 @@ use mathlib.Core.List.{List}
 use lib.Dec.{eqb}
 use Rattle.ring.specs.Slot.{written}
 use Rattle.book.specs.declared.Book.{Book}
-use Rattle.book.specs.Record.{blockOf, slotsOf, widthOf, changed}
+use Rattle.book.specs.Record.{blockOf, slotsOf, widthOf, recordWith}
 
 -- R grows by x
 abbrev pub carryWith : Book → ℕ → ℕ
@@ -25,12 +25,12 @@ quotientOf book item = carryWith book item / book .tolerance
 
 -- the record where p + 1 is not c: the block stays open
 abbrev pub addedOpen : Book → ℕ → Book
-addedOpen book item = changed book (carryWith book item) (book .phase + 1) (keptMore book) (book .head)
+addedOpen book item = recordWith book (carryWith book item) (book .phase + 1) (keptMore book) (book .head)
 
 -- the record where p + 1 is c: the block closes, and R becomes R − q·D
 abbrev pub addedClosed : Book → ℕ → Book
 addedClosed book item =
-    changed book (carryWith book item - quotientOf book item * book .tolerance) 0 (keptMore book)
+    recordWith book (carryWith book item - quotientOf book item * book .tolerance) 0 (keptMore book)
     (slotAfter (slotsOf book) (book .head))
 
 -- the record after adding

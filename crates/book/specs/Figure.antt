@@ -20,17 +20,26 @@ slotsFor book window = ceilDiv (window - book .phase) (blockOf book)
 abbrev pub figureInOpen : Book → ℕ → ℕ
 figureInOpen book window = reckoned book 0 (book .phase - window) (book .carry / book .tolerance)
 
--- otherwise e = j·c − (i − p), and g is the oldest of the j newest slots
-abbrev pub figureInSlots : Book → (ℕ → ℕ) → ℕ → ℕ
-figureInSlots book held window =
+-- otherwise e = j·c − (i − p), and g is the oldest of the j newest slots. The sum of the j newest slots is handed in as a function of j,
+-- and what a slot holds as a function of its number
+abbrev pub figureInSlots : Book → (ℕ → ℕ) → (ℕ → ℕ) → ℕ → ℕ
+figureInSlots book newestSum held window =
     let j = slotsFor book window in
-    reckoned book (sumNewest held (slotsOf book) (book .head) j) (j * blockOf book - (window - book .phase))
-    (held (newest (slotsOf book) (book .head) j))
+    reckoned book (newestSum j) (j * blockOf book - (window - book .phase)) (held (newest (slotsOf book) (book .head) j))
 
--- the figure, by what the slots hold
-unfoldable pub figureBy : Book → (ℕ → ℕ) → ℕ → ℕ
-figureBy book held window = cond (leb window (book .phase)) (figureInOpen book window) (figureInSlots book held window)
+-- the figure, by the sums of the newest slots and by what the slots hold
+unfoldable pub figureBy : Book → (ℕ → ℕ) → (ℕ → ℕ) → ℕ → ℕ
+figureBy book newestSum held window =
+    cond (leb window (book .phase)) (figureInOpen book window) (figureInSlots book newestSum held window)
+
+-- the sum of the j newest slots, by what the slots hold
+abbrev pub newestSumOf : Book → (ℕ → ℕ) → ℕ → ℕ
+newestSumOf book held j = sumNewest held (slotsOf book) (book .head) j
+
+-- the figure where the sums are those of the slots themselves
+abbrev pub figureOf : Book → (ℕ → ℕ) → ℕ → ℕ
+figureOf book held window = figureBy book (newestSumOf book held) held window
 
 -- the figure of a book with its ring
 abbrev pub figure : Book → List ℕ → ℕ → ℕ
-figure book ring window = figureBy book (heldIn book ring) window
+figure book ring window = figureOf book (heldIn book ring) window

@@ -1,5 +1,5 @@
 -- How far back for v: paper 01, "How far back".
-use Prim.Native.Nat.{ℕ, zero, suc}
+use Prim.Native.Nat.{ℕ, zero, suc, _≤_, _<_}
 use mathlib.Core.Bool.{cond}
 use mathlib.Core.List.{List}
 use lib.Dec.{leb}
@@ -14,3 +14,19 @@ firstReaching figureOf v (suc count) i = cond (leb v (figureOf i)) i (firstReach
 -- the smallest i from 1 to kept whose figure is at least v, and 0 where there is none
 unfoldable pub howFarBack : Book → List ℕ → ℕ → ℕ
 howFarBack book ring v = firstReaching (figure book ring) v (book .kept) 1
+
+-- Said without a search: i is the smallest window from 1 to kept whose measure (its figure, or its true total) is at least v …
+pub record Smallest (kept : ℕ) (measure : ℕ → ℕ) (v i : ℕ) : Type 0 where
+  pub low : 1 ≤ i
+  pub high : i ≤ kept
+  pub reaches : v ≤ measure i
+  pub shortest : (k : ℕ) → 1 ≤ k → k < i → measure k < v
+
+-- … there is such a window …
+pub record Found (kept : ℕ) (measure : ℕ → ℕ) (v : ℕ) : Type 0 where
+  pub window : ℕ
+  pub smallest : Smallest kept measure v window
+
+-- … and there is none
+abbrev pub NoWindow : ℕ → (ℕ → ℕ) → ℕ → Type 0
+NoWindow kept measure v = (k : ℕ) → 1 ≤ k → k ≤ kept → measure k < v

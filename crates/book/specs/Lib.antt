@@ -1,4 +1,6 @@
+pub mod Limits
 pub mod Derived
+pub mod Shape
 pub mod Record
 pub mod Sound
 pub mod Stops
@@ -7,4 +9,4 @@ pub mod Figure
 pub mod HowFar
 pub mod Verdict
 pub mod Calls
-pub mod Every
+pub mod Judged

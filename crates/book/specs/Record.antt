@@ -3,14 +3,22 @@ use Prim.Native.Nat.{ℕ}
 use mathlib.Core.List.{List}
 use Rattle.ring.specs.Slot.{field}
 use Rattle.book.specs.declared.Book.{Book}
-use Rattle.book.specs.Derived.{blockLength, slotCount, fieldWidth, bytesNeeded}
+use Rattle.book.specs.declared.shape.Shape.{Shape}
+use Rattle.book.specs.Derived.{blockLength, slotCount, largestQuotient, fieldWidth, bytesNeeded}
+use Rattle.book.specs.Shape.{shapeOf}
 
--- c, s, b and B of a record
+-- c, s, z, b and B of a record, together and each by itself
+abbrev pub shapeFor : Book → Shape
+shapeFor book = shapeOf (book .bound) (book .length) (book .tolerance)
+
 abbrev pub blockOf : Book → ℕ
 blockOf book = blockLength (book .bound) (book .tolerance)
 
 abbrev pub slotsOf : Book → ℕ
 slotsOf book = slotCount (book .bound) (book .length) (book .tolerance)
+
+abbrev pub largestOf : Book → ℕ
+largestOf book = largestQuotient (book .bound) (book .tolerance)
 
 abbrev pub widthOf : Book → ℕ
 widthOf book = fieldWidth (book .bound) (book .tolerance)
@@ -23,8 +31,8 @@ abbrev pub heldIn : Book → List ℕ → ℕ → ℕ
 heldIn book ring = field (widthOf book) ring
 
 -- the record with another carry, phase, kept and head
-abbrev pub changed : Book → ℕ → ℕ → ℕ → ℕ → Book
-changed book carry phase kept head =
+abbrev pub recordWith : Book → ℕ → ℕ → ℕ → ℕ → Book
+recordWith book carry phase kept head =
     record {
       bound = book .bound;
       length = book .length;

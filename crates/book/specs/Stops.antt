@@ -13,8 +13,8 @@ module _ (book : Book) (held : ℕ → ℕ) where
   gathered j = book .carry + book .tolerance * sumNewest held (slotsOf book) (book .head) j
 
   -- the figure where j blocks end
-  abbrev pub ahead : ℕ → ℕ
-  ahead j = gathered j - (book .tolerance - 1)
+  abbrev pub endFigure : ℕ → ℕ
+  endFigure j = gathered j - (book .tolerance - 1)
 
   -- the quotient of the oldest of j blocks: of the open block, how often its carry passes D
   abbrev pub oldest : ℕ → ℕ
@@ -25,8 +25,8 @@ module _ (book : Book) (held : ℕ → ℕ) where
   pub record Stopped (v : ℕ) (stop : Stop) : Type 0 where
     pub total-is : stop .total ≡ gathered (stop .blocks)
     pub quotient-is : stop .quotient ≡ oldest (stop .blocks)
-    pub earlier : (k : ℕ) → k < stop .blocks → ahead k < v
-    pub done : (v ≤ ahead (stop .blocks)) ⊎ (book .kept ≤ book .phase + stop .blocks * blockOf book)
+    pub earlier : (k : ℕ) → k < stop .blocks → endFigure k < v
+    pub done : (v ≤ endFigure (stop .blocks)) ⊎ (book .kept ≤ book .phase + stop .blocks * blockOf book)
     pub few : stop .blocks ≤ slotsOf book
 
 -- how far before the end of j blocks a window can lie: the open block has no window of 0

@@ -2,17 +2,16 @@
 ghost use mathlib.Core.Path.{_≡_};
 ghost use Prim.Native.Nat.{_≤_, _<_};
 ghost use lib.ListN.{length};
-ghost use Rattle.book.specs.Record.{bytesOf, changed};
-ghost use Rattle.book.specs.Sound.{Sound};
-ghost use Rattle.book.specs.Adding.{carryWith, slotAfter, keptMore, added, addedRing};
+ghost use Rattle.book.specs.Record.{recordWith};
+ghost use Rattle.book.specs.Judged.{Ready};
+ghost use Rattle.book.specs.Adding.{slotAfter, keptMore, added, addedRing};
 use crate::Book;
-use crate::derived::block_length;
-use crate::derived::slot_count;
+use crate::shape::Shape;
 use crate::slots;
 
 // The record with another carry, phase, kept and head: the one place where a changed record is made.
 fn with(book: Book, carry: u64, phase: u64, kept: u64, head: u64) -> Book
-    ensures { λ r. ⌜ r ≡ changed book carry phase kept head ⌝ }
+    ensures { λ r. ⌜ r ≡ recordWith book carry phase kept head ⌝ }
 {
     Book {
         bound: book.bound,
@@ -23,14 +22,6 @@ fn with(book: Book, carry: u64, phase: u64, kept: u64, head: u64) -> Book
         kept,
         head,
     }
-}
-
-// R grows by the item.
-fn grown(book: Book, item: u64) -> u64
-    requires { ⌜ (book .carry ≤ 1073741824) × (item ≤ 65535) ⌝ }
-    ensures { λ r. ⌜ r ≡ carryWith book item ⌝ }
-{
-    book.carry + item
 }
 
 // Head moves on by one, from the last slot to 0.
@@ -54,21 +45,18 @@ fn kept_more(book: Book) -> u64
 }
 
 // The record after the item; where the block closes, the quotient goes into the ring's slot head.
-pub(crate) fn add(book: Book, ring: &mut [u8], item: u64) -> Book
-    requires { ⌜ Sound book × (item ≤ book .bound) × (bytesOf book ≤ length (now ring)) ⌝ }
+pub(crate) fn add(book: Book, shape: Shape, ring: &mut [u8], item: u64) -> Book
+    requires { ⌜ Ready book shape (length (now ring)) × (item ≤ book .bound) ⌝ }
     ensures { λ r. ⌜ (r ≡ added book item) × (now (ring .exit) ≡ addedRing book (now (ring .entry)) item) ⌝ }
 {
-    let carry = grown(book, item);
+    let carry = book.carry + item;
     let kept = kept_more(book);
     let phase = book.phase + 1;
-    if phase != block_length(book.bound, book.length, book.tolerance) {
+    if phase != shape.block {
         return with(book, carry, phase, kept, book.head);
     }
     let quotient = carry / book.tolerance;
-    slots::put(book, ring, quotient);
-    let head = slot_after(
-        slot_count(book.bound, book.length, book.tolerance),
-        book.head,
-    );
+    slots::put(shape, ring, book.head, quotient);
+    let head = slot_after(shape.slots, book.head);
     with(book, carry - quotient * book.tolerance, 0, kept, head)
 }

@@ -2,15 +2,14 @@
 ghost use mathlib.Core.Path.{_≡_};
 ghost use Prim.Native.Nat.{_+_, _-_, _*_, _/_, _≤_, _<_, min};
 ghost use lib.ListN.{length};
-ghost use Rattle.book.specs.Record.{bytesOf, slotsOf, heldIn};
+ghost use Rattle.book.specs.Record.{blockOf, heldIn};
 ghost use Rattle.book.specs.Sound.{Sound};
+ghost use Rattle.book.specs.Judged.{Ready};
 ghost use Rattle.book.specs.HowFar.{howFarBack};
 ghost use Rattle.book.specs.Stops.{Stopped, furthest};
 use crate::Book;
-use crate::derived::block_length;
-use crate::derived::ceil_div;
-use crate::derived::field_width;
-use crate::derived::slot_count;
+use crate::shape::Shape;
+use crate::shape::ceil_div;
 use crate::slots;
 
 // Where the walk stops: behind `blocks` blocks. `total` is the carry with D times their slots, `quotient` that of the oldest.
@@ -33,16 +32,11 @@ fn end_figure(tolerance: u64, total: u64) -> u64
 }
 
 // Walks back over the blocks that are kept, each slot once, to the first whose end reaches the amount.
-fn walk(book: Book, ring: &[u8], amount: u64) -> Stop
-    requires { ⌜ Sound book × (bytesOf book ≤ length (now ring)) ⌝ }
+fn walk(book: Book, shape: Shape, ring: &[u8], amount: u64) -> Stop
+    requires { ⌜ Ready book shape (length (now ring)) ⌝ }
     ensures { λ r. ⌜ Stopped book (heldIn book (now (ring .entry))) amount r ⌝ }
 {
-    let width = field_width(book.bound, book.length, book.tolerance);
-    let count = slot_count(book.bound, book.length, book.tolerance);
-    let most = ceil_div(
-        book.kept - book.phase,
-        block_length(book.bound, book.length, book.tolerance),
-    );
+    let most = ceil_div(book.kept - book.phase, shape.block);
     let mut slot = book.head;
     let mut blocks = 0;
     let mut total = book.carry;
@@ -55,8 +49,8 @@ fn walk(book: Book, ring: &[u8], amount: u64) -> Stop
                 quotient,
             };
         }
-        slot = slots::before(count, slot);
-        quotient = slots::get(width, count, ring, slot);
+        slot = slots::before(shape.slots, slot);
+        quotient = slots::get(shape, ring, slot);
         total += book.tolerance * quotient;
         blocks += 1;
     }
@@ -68,12 +62,12 @@ fn walk(book: Book, ring: &[u8], amount: u64) -> Stop
 }
 
 // How far before the end of `blocks` blocks a window can lie.
-fn most_places(book: Book, blocks: u64) -> u64
-    requires { ⌜ Sound book ⌝ }
+fn most_places(book: Book, block: u64, blocks: u64) -> u64
+    requires { ⌜ (1 ≤ block) × (block ≡ blockOf book) ⌝ }
     ensures { λ r. ⌜ r ≡ furthest book blocks ⌝ }
 {
     if blocks != 0 {
-        return block_length(book.bound, book.length, book.tolerance) - 1;
+        return block - 1;
     }
     if book.phase == 0 { 0 } else { book.phase - 1 }
 }
@@ -88,19 +82,18 @@ fn places(most: u64, slack: u64, step: u64) -> u64
 }
 
 // The shortest window whose figure reaches the amount, and 0 where none that is kept does.
-pub(crate) fn how_far(book: Book, ring: &[u8], amount: u64) -> u64
-    requires { ⌜ Sound book × (bytesOf book ≤ length (now ring)) × (0 < amount) ⌝ }
+pub(crate) fn how_far(book: Book, shape: Shape, ring: &[u8], amount: u64) -> u64
+    requires { ⌜ Ready book shape (length (now ring)) × (0 < amount) ⌝ }
     ensures { λ r. ⌜ r ≡ howFarBack book (now (ring .entry)) amount ⌝ }
 {
-    let stop = walk(book, ring, amount);
+    let stop = walk(book, shape, ring, amount);
     let end = end_figure(book.tolerance, stop.total);
     if end < amount {
         return 0;
     }
-    let most = most_places(book, stop.blocks);
+    let most = most_places(book, shape.block, stop.blocks);
     let e = places(most, end - amount, book.bound * stop.quotient);
-    let window = book.phase + stop.blocks * block_length(book.bound, book.length, book.tolerance)
-        - e;
+    let window = book.phase + stop.blocks * shape.block - e;
     if book.kept < window {
         return 0;
     }

@@ -1,15 +1,20 @@
 // A book of frame counts: it takes one count a frame and tells, within a tolerance, how much changed over the last i frames.
 // The record goes in and comes back by value, the ring is lent. What each call answers and leaves is defined in specs/Calls.antt.
 ghost use mathlib.Core.Path.{_≡_};
+ghost use Rattle.refusals.specs.Call.{resultOf, leftOf};
 ghost use Rattle.book.specs.Record.{opened};
-ghost use Rattle.book.specs.Calls.{openAnswer, openBytes, addAnswer, addBytes, totalAnswer, farAnswer, verdictAnswer};
+ghost use Rattle.book.specs.Calls.{openCall, addCall, totalCall, howFarCall, verdictCall};
+use refusals::ITEM_TOO_LARGE;
 use refusals::NOT_REACHED;
+use refusals::RING_TOO_SHORT;
+use refusals::WINDOW_TOO_LONG;
+use refusals::ZERO_ASKED;
 use verdicts::Ruling;
 
 mod adding;
-mod derived;
 mod distance;
 mod judge;
+pub mod shape;
 mod slots;
 mod totals;
 pub mod verdicts;
@@ -49,20 +54,27 @@ pub struct Figure {
 
 // Opens a book with a bound, a length and a tolerance, and clears the bytes that its ring takes.
 pub fn open(bound: u64, length: u64, tolerance: u64, ring: &mut [u8]) -> Updated
-    ensures { λ r. ⌜ (r ≡ openAnswer bound length tolerance (now (ring .entry))) × (now (ring .exit) ≡ openBytes bound length tolerance (now (ring .entry))) ⌝ }
+    ensures { λ r. ⌜ (r ≡ resultOf (openCall bound length tolerance (now (ring .entry)))) × (now (ring .exit) ≡ leftOf (openCall bound length tolerance (now (ring .entry)))) ⌝ }
 {
-    let refusal = judge::open(bound, length, tolerance, derived::count(ring.len()));
-    if refusal != 0 {
+    let shaped = shape::derive(bound, length, tolerance);
+    if shaped.refusal != 0 {
+        let zeros = fresh(0, 0, 0);
         return Updated {
-            refusal,
-            book: fresh(0, 0, 0),
+            refusal: shaped.refusal,
+            book: zeros,
         };
     }
-    slots::clear(bound, length, tolerance, ring);
-    Updated {
-        refusal: 0,
-        book: fresh(bound, length, tolerance),
+    let shape = shaped.shape;
+    if judge::count(ring.len()) < shape.bytes {
+        let zeros = fresh(0, 0, 0);
+        return Updated {
+            refusal: RING_TOO_SHORT,
+            book: zeros,
+        };
     }
+    slots::clear(shape, ring);
+    let book = fresh(bound, length, tolerance);
+    Updated { refusal: 0, book }
 }
 
 // A record with nothing in it yet.
@@ -82,13 +94,23 @@ fn fresh(bound: u64, length: u64, tolerance: u64) -> Book
 
 // Adds one item to a book.
 pub fn add(book: Book, ring: &mut [u8], item: u64) -> Updated
-    ensures { λ r. ⌜ (r ≡ addAnswer book (now (ring .entry)) item) × (now (ring .exit) ≡ addBytes book (now (ring .entry)) item) ⌝ }
+    ensures { λ r. ⌜ (r ≡ resultOf (addCall book (now (ring .entry)) item)) × (now (ring .exit) ≡ leftOf (addCall book (now (ring .entry)) item)) ⌝ }
 {
-    let refusal = judge::add(book, derived::count(ring.len()), item);
-    if refusal != 0 {
-        return Updated { refusal, book };
+    let judged = judge::usable(book, judge::count(ring.len()));
+    if judged.refusal != 0 {
+        return Updated {
+            refusal: judged.refusal,
+            book,
+        };
     }
-    let next = adding::add(book, ring, item);
+    if book.bound < item {
+        return Updated {
+            refusal: ITEM_TOO_LARGE,
+            book,
+        };
+    }
+    let shape = judged.shape;
+    let next = adding::add(book, shape, ring, item);
     Updated {
         refusal: 0,
         book: next,
@@ -97,44 +119,71 @@ pub fn add(book: Book, ring: &mut [u8], item: u64) -> Updated
 
 // The figure for the last `window` items.
 pub fn total(book: Book, ring: &[u8], window: u64) -> Figure
-    ensures { λ r. ⌜ r ≡ totalAnswer book (now (ring .entry)) window ⌝ }
+    ensures { λ r. ⌜ r ≡ resultOf (totalCall book (now (ring .entry)) window) ⌝ }
 {
-    let refusal = judge::total(book, derived::count(ring.len()), window);
-    if refusal != 0 {
-        return Figure { refusal, figure: 0 };
+    let judged = judge::usable(book, judge::count(ring.len()));
+    if judged.refusal != 0 {
+        return no_figure(judged.refusal);
     }
+    if book.kept < window {
+        return no_figure(WINDOW_TOO_LONG);
+    }
+    let shape = judged.shape;
     Figure {
         refusal: 0,
-        figure: totals::figure_of(book, ring, window),
+        figure: totals::figure_of(book, shape, ring, window),
     }
 }
 
-// How far back for an amount: the shortest window whose figure reaches it.
-pub fn far(book: Book, ring: &[u8], amount: u64) -> Window
-    ensures { λ r. ⌜ r ≡ farAnswer book (now (ring .entry)) amount ⌝ }
+fn no_figure(refusal: u8) -> Figure
+    ensures { λ r. ⌜ r ≡ record { refusal = refusal; figure = 0 } ⌝ }
 {
-    let refusal = judge::ask(book, derived::count(ring.len()), amount);
-    if refusal != 0 {
-        return Window { refusal, window: 0 };
+    Figure { refusal, figure: 0 }
+}
+
+// How far back for an amount: the shortest window whose figure reaches it.
+pub fn how_far_back(book: Book, ring: &[u8], amount: u64) -> Window
+    ensures { λ r. ⌜ r ≡ resultOf (howFarCall book (now (ring .entry)) amount) ⌝ }
+{
+    let judged = judge::usable(book, judge::count(ring.len()));
+    if judged.refusal != 0 {
+        return no_window(judged.refusal);
     }
-    let window = distance::how_far(book, ring, amount);
+    if amount == 0 {
+        return no_window(ZERO_ASKED);
+    }
+    let shape = judged.shape;
+    let window = distance::how_far(book, shape, ring, amount);
     if window == 0 {
-        return Window {
-            refusal: NOT_REACHED,
-            window: 0,
-        };
+        return no_window(NOT_REACHED);
     }
     Window { refusal: 0, window }
 }
 
+fn no_window(refusal: u8) -> Window
+    ensures { λ r. ⌜ r ≡ record { refusal = refusal; window = 0 } ⌝ }
+{
+    Window { refusal, window: 0 }
+}
+
 // The verdict for a window and an amount.
 pub fn verdict(book: Book, ring: &[u8], window: u64, amount: u64) -> Ruling
-    ensures { λ r. ⌜ r ≡ verdictAnswer book (now (ring .entry)) window amount ⌝ }
+    ensures { λ r. ⌜ r ≡ resultOf (verdictCall book (now (ring .entry)) window amount) ⌝ }
 {
-    let refusal = judge::verdict(book, derived::count(ring.len()), window, amount);
-    if refusal != 0 {
-        return Ruling::Refused(refusal);
+    let judged = judge::usable(book, judge::count(ring.len()));
+    if judged.refusal != 0 {
+        return Ruling::Refused(judged.refusal);
     }
-    let figure = totals::figure_of(book, ring, window);
+    if amount == 0 {
+        return Ruling::Refused(ZERO_ASKED);
+    }
+    if window == 0 {
+        return Ruling::Refused(ZERO_ASKED);
+    }
+    if book.kept < window {
+        return Ruling::Refused(WINDOW_TOO_LONG);
+    }
+    let shape = judged.shape;
+    let figure = totals::figure_of(book, shape, ring, window);
     Ruling::Told(verdicts::rule(book.tolerance, amount, figure))
 }

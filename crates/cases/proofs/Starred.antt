@@ -2,18 +2,20 @@
 -- Assumes nothing.
 use mathlib.Core.List.{List, map}
 use mathlib.Core.Path.{_≡_, refl}
-use Rattle.ring.specs.Row.{digits, number, bits, packed}
+use Rattle.refusals.specs.Call.{refusalOf, resultOf, leftOf}
+use Rattle.bits.specs.Row.{digits, number, bits, packed}
 use Rattle.ring.specs.Slot.{ringBytes, field, written, cleared}
 use Rattle.ring.specs.Newest.{slotBefore, newest, sumNewest}
 use Rattle.book.specs.Derived.{ceilDiv, blockLength, slotCount, largestQuotient, digitsWithin, binaryDigits, fieldWidth, bytesNeeded}
+use Rattle.book.specs.Shape.{shapeCall}
 use Rattle.book.specs.Adding.{slotAfter, added, addedRing}
 use Rattle.book.specs.Figure.{reckoned, slotsFor, figureBy}
 use Rattle.book.specs.HowFar.{firstReaching, howFarBack}
 use Rattle.book.specs.Verdict.{verdictOf}
-use Rattle.book.specs.Calls.{openRefusal, openAnswer, openBytes, addRefusal, addAnswer, addBytes, totalRefusal, totalAnswer, farRefusal, farAnswer, verdictRefusal, verdictAnswer}
+use Rattle.book.specs.Calls.{openCall, addCall, totalCall, howFarCall, verdictCall}
 use Rattle.demands.specs.History.{sumOf, trueTotal}
 use Rattle.cases.specs.Table.{table, answered, given}
 
 pub starred : map answered table ≡ map given table
-unfolding digits number bits packed ringBytes field written cleared slotBefore newest sumNewest ceilDiv blockLength slotCount largestQuotient digitsWithin binaryDigits fieldWidth bytesNeeded slotAfter added addedRing reckoned slotsFor figureBy firstReaching howFarBack verdictOf openRefusal openAnswer openBytes addRefusal addAnswer addBytes totalRefusal totalAnswer farRefusal farAnswer verdictRefusal verdictAnswer sumOf trueTotal
+unfolding resultOf leftOf digits number bits packed ringBytes field written cleared slotBefore newest sumNewest ceilDiv blockLength slotCount largestQuotient digitsWithin binaryDigits fieldWidth bytesNeeded shapeCall slotAfter added addedRing reckoned slotsFor figureBy firstReaching howFarBack verdictOf openCall addCall totalCall howFarCall verdictCall sumOf trueTotal
 starred = refl

@@ -1,2 +1,4 @@
-pub mod Asked
+pub mod History
+pub mod Question
+pub mod Answering
 pub mod Table

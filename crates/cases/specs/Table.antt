@@ -1,90 +1,111 @@
 -- Paper 01, "Figures worked by hand", the starred cases A to E: each row asks something of a history and gives the answer.
 use Prim.Native.Nat.{ℕ}
 use mathlib.Core.List.{List, [], _∷_}
-use Rattle.cases.specs.Asked.{History, Asked, derived, opening, state, adding, total, truly, howFar, verdict}
+use Rattle.book.specs.declared.verdicts.Verdict.the-variants.{Live, Frozen, Undecided}
+use Rattle.cases.specs.History.{L_n_D_lent_, History, opened, _then_}
+use Rattle.cases.specs.Question.{Question, shape, opening, state, adding, total, truly, howFar, verdict, _over_}
+use Rattle.cases.specs.Question.{Answer, c_s_z_b_B_, opens, R_p_kept_head_ring_, figure, true, window, told, refused}
+use Rattle.cases.specs.Answering.{answerTo}
 
 infix 10 _asks_gives_
 pub data Row : Type 0 where
-  _asks_gives_ : History → Asked → List ℕ → Row
+  _asks_gives_ : History → Question → Answer → Row
 
--- A: L 5, n 6, D 10, items 3 4 5 5 0 1 5
+-- A: L 5, D 10, n 6, items 3 4 5 5 0 1 5 …
 abbrev caseA : History
-caseA =
-    record { bound = 5; length = 6; tolerance = 10; lent = 255 ∷ []; items = 3 ∷ 4 ∷ 5 ∷ 5 ∷ 0 ∷ 1 ∷ 5 ∷ [] }
+caseA = opened (L 5 n 6 D 10 lent (0xff ∷ [])) then 3 then 4 then 5 then 5 then 0 then 1 then 5
 
--- A with one more item 2
+-- … with one more item 2 …
 abbrev caseA2 : History
-caseA2 =
-    record { bound = 5; length = 6; tolerance = 10; lent = 255 ∷ []; items = 3 ∷ 4 ∷ 5 ∷ 5 ∷ 0 ∷ 1 ∷ 5 ∷ 2 ∷ [] }
+caseA2 = caseA then 2
 
--- A with a ring of 0 bytes
-abbrev caseA0 : History
-caseA0 = record { bound = 5; length = 6; tolerance = 10; lent = []; items = [] }
+-- … and with an item 6 in between, which is refused
+abbrev caseA6 : History
+caseA6 = opened (L 5 n 6 D 10 lent (0xff ∷ [])) then 3 then 4 then 5 then 5 then 0 then 6 then 1 then 5
 
--- B: L 3, n 4, D 2, items 1 3 0 3
+-- B: L 3, D 2, n 4, items 1 3 0 3
 abbrev caseB : History
-caseB = record { bound = 3; length = 4; tolerance = 2; lent = 255 ∷ []; items = 1 ∷ 3 ∷ 0 ∷ 3 ∷ [] }
+caseB = opened (L 3 n 4 D 2 lent (0xff ∷ [])) then 1 then 3 then 0 then 3
 
--- C: L 9, n 3, D 1, items 9 0 4 2
+-- C: L 9, D 1, n 3, items 9 0 4 2
 abbrev caseC : History
-caseC = record { bound = 9; length = 3; tolerance = 1; lent = 255 ∷ 255 ∷ []; items = 9 ∷ 0 ∷ 4 ∷ 2 ∷ [] }
+caseC = opened (L 9 n 3 D 1 lent (0xff ∷ 0xff ∷ [])) then 9 then 0 then 4 then 2
 
 -- D: L 5, n 3, and D 10, 15, 16
 abbrev caseD : ℕ → History
-caseD tolerance = record { bound = 5; length = 3; tolerance = tolerance; lent = 255 ∷ []; items = [] }
+caseD tolerance = opened (L 5 n 3 D tolerance lent (0xff ∷ []))
 
 abbrev pub table : List Row
 table =
-    (caseA asks derived gives (2 ∷ 3 ∷ 1 ∷ 1 ∷ 1 ∷ []))
-    ∷ (caseA asks state gives (13 ∷ 1 ∷ 6 ∷ 0 ∷ 0x40 ∷ []))
-    ∷ (caseA asks total 0 gives (0 ∷ 0 ∷ []))
-    ∷ (caseA asks total 1 gives (0 ∷ 4 ∷ []))
-    ∷ (caseA asks total 2 gives (0 ∷ 4 ∷ []))
-    ∷ (caseA asks total 3 gives (0 ∷ 4 ∷ []))
-    ∷ (caseA asks total 4 gives (0 ∷ 9 ∷ []))
-    ∷ (caseA asks total 5 gives (0 ∷ 14 ∷ []))
-    ∷ (caseA asks total 6 gives (0 ∷ 14 ∷ []))
-    ∷ (caseA asks total 7 gives (5 ∷ 0 ∷ []))
-    ∷ (caseA asks truly 0 gives (0 ∷ []))
-    ∷ (caseA asks truly 1 gives (5 ∷ []))
-    ∷ (caseA asks truly 2 gives (6 ∷ []))
-    ∷ (caseA asks truly 3 gives (6 ∷ []))
-    ∷ (caseA asks truly 4 gives (11 ∷ []))
-    ∷ (caseA asks truly 5 gives (16 ∷ []))
-    ∷ (caseA asks truly 6 gives (20 ∷ []))
-    ∷ (caseA asks howFar 4 gives (0 ∷ 1 ∷ []))
-    ∷ (caseA asks howFar 5 gives (0 ∷ 4 ∷ []))
-    ∷ (caseA asks howFar 14 gives (0 ∷ 5 ∷ []))
-    ∷ (caseA asks howFar 15 gives (9 ∷ 0 ∷ []))
-    ∷ (caseA asks verdict 4 9 gives (0 ∷ 1 ∷ 9 ∷ []))
-    ∷ (caseA asks verdict 4 10 gives (0 ∷ 3 ∷ 9 ∷ []))
-    ∷ (caseA asks verdict 4 18 gives (0 ∷ 3 ∷ 9 ∷ []))
-    ∷ (caseA asks verdict 4 19 gives (0 ∷ 2 ∷ 9 ∷ []))
-    ∷ (caseA asks adding 2 gives (0 ∷ 5 ∷ 0 ∷ 6 ∷ 1 ∷ 0xc0 ∷ []))
-    ∷ (caseA2 asks total 6 gives (0 ∷ 16 ∷ []))
-    ∷ (caseA2 asks truly 6 gives (18 ∷ []))
-    ∷ (caseB asks derived gives (1 ∷ 4 ∷ 2 ∷ 2 ∷ 1 ∷ []))
-    ∷ (caseB asks state gives (1 ∷ 0 ∷ 4 ∷ 0 ∷ 0x21 ∷ []))
-    ∷ (caseB asks total 1 gives (0 ∷ 2 ∷ []))
-    ∷ (caseB asks total 2 gives (0 ∷ 2 ∷ []))
-    ∷ (caseB asks total 3 gives (0 ∷ 6 ∷ []))
-    ∷ (caseB asks total 4 gives (0 ∷ 6 ∷ []))
-    ∷ (caseC asks derived gives (1 ∷ 3 ∷ 9 ∷ 4 ∷ 2 ∷ []))
-    ∷ (caseC asks state gives (0 ∷ 0 ∷ 3 ∷ 1 ∷ 0x20 ∷ 0x40 ∷ []))
-    ∷ (caseC asks total 1 gives (0 ∷ 2 ∷ []))
-    ∷ (caseC asks total 2 gives (0 ∷ 6 ∷ []))
-    ∷ (caseC asks total 3 gives (0 ∷ 6 ∷ []))
-    ∷ (caseD 10 asks derived gives (2 ∷ 2 ∷ 1 ∷ 1 ∷ 1 ∷ []))
-    ∷ (caseD 15 asks opening gives (0 ∷ []))
-    ∷ (caseD 16 asks opening gives (3 ∷ []))
-    ∷ (caseA asks adding 5 gives (0 ∷ 8 ∷ 0 ∷ 6 ∷ 1 ∷ 0xc0 ∷ []))
-    ∷ (caseA asks adding 6 gives (7 ∷ 13 ∷ 1 ∷ 6 ∷ 0 ∷ 0x40 ∷ []))
-    ∷ (caseA0 asks opening gives (4 ∷ []))
+    -- A
+    (caseA asks shape gives c 2 s 3 z 1 b 1 B 1)
+    ∷ (caseA asks state gives R 13 p 1 kept 6 head 0 ring (0x40 ∷ []))
+    -- A, windows 0 to 6, and 7
+    ∷ (caseA asks total 0 gives figure 0)
+    ∷ (caseA asks total 1 gives figure 4)
+    ∷ (caseA asks total 2 gives figure 4)
+    ∷ (caseA asks total 3 gives figure 4)
+    ∷ (caseA asks total 4 gives figure 9)
+    ∷ (caseA asks total 5 gives figure 14)
+    ∷ (caseA asks total 6 gives figure 14)
+    ∷ (caseA asks truly 0 gives true 0)
+    ∷ (caseA asks truly 1 gives true 5)
+    ∷ (caseA asks truly 2 gives true 6)
+    ∷ (caseA asks truly 3 gives true 6)
+    ∷ (caseA asks truly 4 gives true 11)
+    ∷ (caseA asks truly 5 gives true 16)
+    ∷ (caseA asks truly 6 gives true 20)
+    ∷ (caseA asks total 7 gives refused 5)
+    -- A, how far back
+    ∷ (caseA asks howFar 4 gives window 1)
+    ∷ (caseA asks howFar 5 gives window 4)
+    ∷ (caseA asks howFar 14 gives window 5)
+    ∷ (caseA asks howFar 15 gives refused 9)
+    -- A, window 4
+    ∷ (caseA asks verdict 4 9 gives told (Live 9))
+    ∷ (caseA asks verdict 4 10 gives told (Undecided 9))
+    ∷ (caseA asks verdict 4 18 gives told (Undecided 9))
+    ∷ (caseA asks verdict 4 19 gives told (Frozen 9))
+    -- A with one more item 2
+    ∷ (caseA2 asks state gives R 5 p 0 kept 6 head 1 ring (0xc0 ∷ []))
+    ∷ (caseA2 asks total 6 gives figure 16)
+    ∷ (caseA2 asks truly 6 gives true 18)
+    -- B
+    ∷ (caseB asks shape gives c 1 s 4 z 2 b 2 B 1)
+    ∷ (caseB asks state gives R 1 p 0 kept 4 head 0 ring (0x21 ∷ []))
+    ∷ (caseB asks total 1 gives figure 2)
+    ∷ (caseB asks total 2 gives figure 2)
+    ∷ (caseB asks total 3 gives figure 6)
+    ∷ (caseB asks total 4 gives figure 6)
+    -- C
+    ∷ (caseC asks shape gives c 1 s 3 z 9 b 4 B 2)
+    ∷ (caseC asks state gives R 0 p 0 kept 3 head 1 ring (0x20 ∷ 0x40 ∷ []))
+    ∷ (caseC asks total 1 gives figure 2)
+    ∷ (caseC asks total 2 gives figure 6)
+    ∷ (caseC asks total 3 gives figure 6)
+    -- D
+    ∷ (caseD 10 asks shape gives c 2 s 2 z 1 b 1 B 1)
+    ∷ (caseD 15 asks opening gives opens)
+    ∷ (caseD 16 asks opening gives refused 3)
+    -- E: item 5 is taken, 6 is refused …
+    ∷ (caseA asks adding 5 gives R 8 p 0 kept 6 head 1 ring (0xc0 ∷ []))
+    ∷ (caseA asks adding 6 gives refused 7)
+    -- … and leaves no trace: not in the record, not in the ring, not in the true totals
+    ∷ (caseA6 asks state gives R 13 p 1 kept 6 head 0 ring (0x40 ∷ []))
+    ∷ (caseA6 asks truly 2 gives true 6)
+    ∷ (caseA6 asks truly 3 gives true 6)
+    ∷ (caseA6 asks truly 6 gives true 20)
+    -- E: a ring of 0 bytes, in every call
+    ∷ (caseA asks opening over [] gives refused 4)
+    ∷ (caseA asks adding 5 over [] gives refused 4)
+    ∷ (caseA asks total 4 over [] gives refused 4)
+    ∷ (caseA asks howFar 5 over [] gives refused 4)
+    ∷ (caseA asks verdict 4 9 over [] gives refused 4)
     ∷ []
 
 -- a row's answer by the definitions, and the one that the paper gives
-abbrev pub answered : Row → List ℕ
-answered (history asks asked gives numbers) = Rattle.cases.specs.Asked.answerTo history asked
+abbrev pub answered : Row → Answer
+answered (history asks question gives answer) = answerTo history question
 
-abbrev pub given : Row → List ℕ
-given (history asks asked gives numbers) = numbers
+abbrev pub given : Row → Answer
+given (history asks question gives answer) = answer

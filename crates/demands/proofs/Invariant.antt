@@ -16,7 +16,7 @@ use Rattle.book.specs.Record.{blockOf, slotsOf}
 use Rattle.book.specs.Sound.{Sound}
 use Rattle.demands.specs.History.{trueTotal}
 use Rattle.demands.specs.Demand2.{Bounds}
-use Rattle.demands.proofs.Heart.{heart, bracket}
+use Rattle.demands.proofs.OldestBlock.{heart, bracket}
 
 pub record Invariant (book : Book) (held : ℕ → ℕ) (items : List ℕ) : Type 0 where
   pub before : ℕ → ℕ
@@ -34,9 +34,6 @@ pub record Invariant (book : Book) (held : ℕ → ℕ) (items : List ℕ) : Typ
       ≡ before (book .phase + j * blockOf book) / book .tolerance
 
 module _ (book : Book) (held : ℕ → ℕ) (items : List ℕ) (inv : Invariant book held items) where
-  before : ℕ → ℕ
-  before = inv .before
-
   falls-by : (i e : ℕ) → inv .before (i + e) ≤ inv .before i
   falls-by i zero = rw (add-zero i) (omega arith)
   falls-by i (suc e) = rw (add-suc i e) (omega (arith, falls-by i e, inv .falls (i + e)))

@@ -1,45 +1,52 @@
--- Demand 3: "how far back for v", over the true totals; and what a verdict means.
+-- Demand 3: "how far back for v", over the call and the true totals.
 use Prim.Native.Nat.{ℕ, _+_, _-_, _≤_, _<_}
 use mathlib.Core.List.{List}
-use mathlib.Core.Logic.{_↔_}
+use mathlib.Core.Logic.{_⊎_, _↔_}
 use mathlib.Core.Path.{_≡_}
 use Rattle.refusals.specs.Numbers.{notReached}
+use Rattle.refusals.specs.Call.{resultOf}
 use Rattle.book.specs.declared.Book.{Book}
-use Rattle.book.specs.declared.verdicts.Ruling.the-variants.{Told}
-use Rattle.book.specs.declared.verdicts.Verdict.the-variants.{Live, Frozen}
+use Rattle.book.specs.declared.Window.{Window}
 use Rattle.book.specs.Figure.{figure}
-use Rattle.book.specs.Calls.{farAnswer, verdictAnswer}
+use Rattle.book.specs.HowFar.{Smallest, NoWindow}
+use Rattle.book.specs.Calls.{howFarCall}
 use Rattle.demands.specs.History.{trueTotal}
 
--- i is the smallest window from 1 to kept whose figure is at least v
-pub record Smallest (book : Book) (ring : List ℕ) (v i : ℕ) : Type 0 where
-  pub low : 1 ≤ i
-  pub kept : i ≤ book .kept
-  pub reaches : v ≤ figure book ring i
-  pub shortest : (k : ℕ) → 1 ≤ k → k < i → figure book ring k < v
+module _ (book : Book) (ring items : List ℕ) (v : ℕ) where
+  -- the call names window i
+  abbrev pub Names : ℕ → Type 0
+  Names i = resultOf (howFarCall book ring v) ≡ record { refusal = 0; window = i }
 
--- there is none
-abbrev pub NoWindow : Book → List ℕ → ℕ → Type 0
-NoWindow book ring v = (k : ℕ) → 1 ≤ k → k ≤ book .kept → figure book ring k < v
+  -- the call says "not reached"
+  abbrev pub SaysNotReached : Type 0
+  SaysNotReached = resultOf (howFarCall book ring v) ≡ record { refusal = notReached; window = 0 }
 
--- the whole of demand 3 for one book and one amount
-pub record Demand3 (book : Book) (ring items : List ℕ) (v : ℕ) : Type 0 where
-  -- where a window is named, it is the smallest …
-  pub named : farAnswer book ring v .refusal ≡ 0 → Smallest book ring v (farAnswer book ring v .window)
-  -- … it truly holds v …
-  pub truly-holds : farAnswer book ring v .refusal ≡ 0 → v ≤ trueTotal (farAnswer book ring v .window) items
-  -- … and every shorter one truly holds less than v + D − 1
-  pub shorter-less : farAnswer book ring v .refusal ≡ 0 → (k : ℕ) → k < farAnswer book ring v .window
-      → trueTotal k items < v + book .tolerance - 1
-  -- where none is reached, none has a figure that reaches v, and none truly holds v + D − 1
-  pub not-reached : farAnswer book ring v .refusal ≡ notReached → NoWindow book ring v
-  pub not-held : farAnswer book ring v .refusal ≡ notReached → (k : ℕ) → k ≤ book .kept → trueTotal k items < v + book .tolerance - 1
-  -- at D = 1 both are exact: the window is the shortest that truly holds v, and none is reached exactly where none holds it
-  pub exact-window : book .tolerance ≡ 1 → farAnswer book ring v .refusal ≡ 0 → (k : ℕ) → k < farAnswer book ring v .window
-      → trueTotal k items < v
-  pub exact-none : book .tolerance ≡ 1 → farAnswer book ring v .refusal ≡ notReached → (k : ℕ) → k ≤ book .kept → trueTotal k items < v
+  -- NAMED: it names the shortest window whose figure reaches v; that window truly holds v, and every shorter one truly holds less than
+  -- v + D − 1
+  pub record Named (i : ℕ) : Type 0 where
+    pub names : Names i
+    pub smallest : Smallest (book .kept) (figure book ring) v i
+    pub truly-holds : v ≤ trueTotal i items
+    pub shorter-less : (k : ℕ) → k < i → trueTotal k items < v + book .tolerance - 1
 
--- what a verdict means: live, the window truly holds the amount; frozen, it truly holds less
-pub record VerdictMeans (book : Book) (ring items : List ℕ) (window v : ℕ) : Type 0 where
-  pub live-holds : (f : ℕ) → verdictAnswer book ring window v ≡ Told (Live f) → v ≤ trueTotal window items
-  pub frozen-less : (f : ℕ) → verdictAnswer book ring window v ≡ Told (Frozen f) → trueTotal window items < v
+  pub record SomeNamed : Type 0 where
+    pub window : ℕ
+    pub named : Named window
+
+  -- NOT REACHED: it says so; no window that is kept has a figure that reaches v, and none truly holds v + D − 1
+  pub record NotReached : Type 0 where
+    pub says : SaysNotReached
+    pub none-reaches : NoWindow (book .kept) (figure book ring) v
+    pub none-holds : (k : ℕ) → k ≤ book .kept → trueTotal k items < v + book .tolerance - 1
+
+  -- AT D = 1 it is exact: the window named is the shortest that truly holds v, and "not reached" comes where none does
+  pub record Exact : Type 0 where
+    pub window-exact : (i : ℕ) → Names i ↔ Smallest (book .kept) (λ k. trueTotal k items) v i
+    pub none-exact : SaysNotReached ↔ NoWindow (book .kept) (λ k. trueTotal k items) v
+
+  -- DEMAND 3 for one amount: one of the two comes, each exactly where it is due
+  pub record Demand3 : Type 0 where
+    pub decided : SomeNamed ⊎ NotReached
+    pub where-some : (i : ℕ) → Smallest (book .kept) (figure book ring) v i → Named i
+    pub where-none : NoWindow (book .kept) (figure book ring) v → NotReached
+    pub exact-at-1 : book .tolerance ≡ 1 → Exact

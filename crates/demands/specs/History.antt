@@ -1,24 +1,32 @@
 -- A book from a good start, used only through the calls, with the items that it accepted since.
 use Prim.Native.Nat.{ℕ, _+_}
 use mathlib.Core.List.{List, [], _∷_}
+use mathlib.Core.Logic.{_⊎_}
 use mathlib.Core.Path.{_≡_}
-use lib.ListN.{length, take, drop}
-use Rattle.refusals.specs.First.{unlessRefused}
+use lib.ListN.{take, drop}
+use Rattle.refusals.specs.Call.{Call, refusalOf, resultOf, leftOf}
 use Rattle.book.specs.declared.Book.{Book}
-use Rattle.book.specs.Calls.{openRefusal, openAnswer, openBytes, addRefusal, addAnswer, addBytes}
+use Rattle.book.specs.Calls.{openCall, addCall}
 
--- the items after a call of adding: the item comes first where it is accepted
-abbrev pub accepted : Book → List ℕ → List ℕ → ℕ → List ℕ
-accepted book ring items item = unlessRefused (addRefusal book (length ring) item) (item ∷ items) items
+-- A call upon a record and a ring, seen by the record that its caller goes on with: a refusal hands back the record as it came, and the
+-- ring was lent
+pub record Upon (book : Book) (ring : List ℕ) (call : Call Book (List ℕ)) : Type 0 where
+  pub hands-back : (number : ℕ) → call .back number ≡ book
+  pub lent-is : call .lent ≡ ring
+
+-- it only asks: where it is not refused, record and ring are as they came too
+abbrev pub OnlyAsks : Book → List ℕ → Call Book (List ℕ) → Type 0
+OnlyAsks book ring call = (call .given ≡ book) × (call .left ≡ ring)
 
 -- Good book ring items: the record and the ring as the last call left them, and all accepted items, the newest first.
--- It begins with an opening that is not refused and goes on with any calls of adding, accepted or refused. The other calls only
--- look, so that nothing changes at them.
+-- It begins with an opening that is not refused, and goes on with items that are accepted, and with any call that is refused or only asks.
 pub data Good : Book → List ℕ → List ℕ → Type 0 where
-  start : (bound n tolerance : ℕ) (lent : List ℕ) → openRefusal bound n tolerance (length lent) ≡ 0
-      → Good (openAnswer bound n tolerance lent .book) (openBytes bound n tolerance lent) []
-  adding : (book : Book) (ring items : List ℕ) → Good book ring items → (item : ℕ)
-      → Good (addAnswer book ring item .book) (addBytes book ring item) (accepted book ring items item)
+  start : (bound n tolerance : ℕ) (lent : List ℕ) → refusalOf (openCall bound n tolerance lent) ≡ 0
+      → Good (resultOf (openCall bound n tolerance lent) .book) (leftOf (openCall bound n tolerance lent)) []
+  adding : (book : Book) (ring items : List ℕ) → Good book ring items → (item : ℕ) → refusalOf (addCall book ring item) ≡ 0
+      → Good (resultOf (addCall book ring item) .book) (leftOf (addCall book ring item)) (item ∷ items)
+  otherwise : (book : Book) (ring items : List ℕ) → Good book ring items → (call : Call Book (List ℕ)) → Upon book ring call
+      → (refusalOf call ≡ 0 → ⊥) ⊎ OnlyAsks book ring call → Good (resultOf call) (leftOf call) items
 
 -- the sum of a list of items
 unfoldable pub sumOf : List ℕ → ℕ

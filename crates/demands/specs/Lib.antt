@@ -1,4 +1,5 @@
 pub mod History
 pub mod Demand2
-pub mod Replay
 pub mod Demand3
+pub mod VerdictMeans
+pub mod RunFromOpening

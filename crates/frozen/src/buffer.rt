@@ -1,5 +1,11 @@
 // The input buffer: the image before, the bytes at hand behind it, and room for more.
 
+// Room for ten images, which have 24,576 bytes at most: the image before, the bytes at hand, and what is read at once.
+pub(crate) const BUFFER_BYTES: usize = 262144;
+
+// The bytes are moved to the start once they end here or behind, where less than three images' room is left.
+const MOVE_AT: usize = 200000;
+
 // Where the image before starts, where the bytes at hand start, and where they end.
 pub(crate) struct Places {
     pub(crate) from: usize,
@@ -12,9 +18,9 @@ pub(crate) struct Filled {
     pub(crate) over: bool,
 }
 
-// The bytes from `from` up to `end` go to the start of the buffer, once less than two images' room is left.
+// The bytes from `from` up to `end` go to the start of the buffer, once little room is left.
 pub(crate) fn make_room(buf: &mut [u8], from: usize, at: usize, end: usize) -> Places {
-    if end < 200000 {
+    if end < MOVE_AT {
         return Places { from, at, end };
     }
     if at < from {

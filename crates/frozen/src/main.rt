@@ -3,9 +3,14 @@
 mod buffer;
 mod turn;
 
+use buffer::BUFFER_BYTES;
+use turn::AGAIN;
+use turn::DONE;
 use turn::Next;
+use watch::setting::RING_BYTES;
 
-const DONE: u8 = 2;
+// Room for the rows of many turns, so that few writes are made.
+const ROWS_BYTES: usize = 4096;
 
 // Takes turns until the bytes at hand give no row more, and writes the rows. A turn takes a byte at least, so there are fewer turns
 // than the buffer has bytes.
@@ -14,7 +19,7 @@ fn drain(start: Next, ring: &mut [u8], buf: &[u8], end: usize, over: bool, out: 
     let mut left = buf.len();
     while 0 < left {
         next = turn::take(next, ring, buf, end, over, out);
-        if next.go != 0 {
+        if next.go != AGAIN {
             return next;
         }
         left -= 1;
@@ -26,6 +31,9 @@ fn drain(start: Next, ring: &mut [u8], buf: &[u8], end: usize, over: bool, out: 
 fn run(ring: &mut [u8], buf: &mut [u8], out: &mut [u8]) {
     let mut next = turn::first(ring, out);
     turn::write(out, next.full);
+    if next.go == DONE {
+        return;
+    }
     let mut end = 0;
     let mut left = u64::MAX;
     while 0 < left {
@@ -43,8 +51,8 @@ fn run(ring: &mut [u8], buf: &mut [u8], out: &mut [u8]) {
 }
 
 fn main() {
-    let mut ring = [0u8; 30];
-    let mut buf = [0u8; 262144];
-    let mut out = [0u8; 4096];
+    let mut ring = [0u8; RING_BYTES];
+    let mut buf = [0u8; BUFFER_BYTES];
+    let mut out = [0u8; ROWS_BYTES];
     run(&mut ring, &mut buf, &mut out);
 }

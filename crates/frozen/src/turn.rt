@@ -2,11 +2,18 @@
 // written when it is full and before the program reads.
 ghost use Prim.Native.Nat.{_≤_};
 ghost use lib.ListN.{length};
+use rows::LINE_MOST;
 use watch::State;
 use watch::Turn;
 
-// The state, where the image before starts, where the bytes at hand start, and how many bytes of rows wait to be written;
-// `go` is 0 to take a turn more, 1 to read, 2 to end.
+// How the program goes on: it takes a turn more, it reads, it ends.
+pub(crate) const AGAIN: u8 = 0;
+
+pub(crate) const READ: u8 = 1;
+
+pub(crate) const DONE: u8 = 2;
+
+// The state, where the image before starts, where the bytes at hand start, how many bytes of rows wait to be written, and how to go on.
 pub(crate) struct Next {
     pub(crate) state: State,
     pub(crate) from: usize,
@@ -15,17 +22,28 @@ pub(crate) struct Next {
     pub(crate) go: u8,
 }
 
-// The book is open and the first line waits.
+// The book is open and the first line waits. (Neither is refused: ring and buffer are large enough. A refusal would end the run.)
 pub(crate) fn first(ring: &mut [u8], out: &mut [u8]) -> Next {
-    let state = watch::start(ring);
-    let full = rows::head(out);
+    let started = watch::start(ring);
+    let head = rows::head(out);
+    let state = started.state;
     Next {
         state,
         from: 0,
         at: 0,
-        full,
-        go: 0,
+        full: head.length,
+        go: unless_refused(started.refusal, head.refusal),
     }
+}
+
+fn unless_refused(start: u8, head: u8) -> u8 {
+    if start != 0 {
+        return DONE;
+    }
+    if head != 0 {
+        return DONE;
+    }
+    AGAIN
 }
 
 // The same state at other places of the buffer, with no row waiting.
@@ -36,7 +54,7 @@ pub(crate) fn at(next: Next, from: usize, at: usize) -> Next {
         from,
         at,
         full: 0,
-        go: 0,
+        go: AGAIN,
     }
 }
 
@@ -62,7 +80,7 @@ fn place(out: &[u8], full: usize) -> usize
     ensures { λ r. ⌜ r ≤ length (now (out .entry)) ⌝ }
 {
     if full <= out.len() {
-        if 96 <= out.len() - full {
+        if LINE_MOST <= out.len() - full {
             return full;
         }
     }
@@ -80,7 +98,7 @@ fn behind(at: usize, used: usize, end: usize) -> usize {
     end
 }
 
-// Takes one turn.
+// Takes one turn. (A step that is refused, which none is, has a refused turn and no row: it would end the run too.)
 pub(crate) fn take(
     next: Next,
     ring: &mut [u8],
@@ -92,13 +110,13 @@ pub(crate) fn take(
     let from = next.from;
     let at = next.at;
     if at < from {
-        return ended(next, next.full, 2);
+        return ended(next, next.full, DONE);
     }
     if end < at {
-        return ended(next, next.full, 2);
+        return ended(next, next.full, DONE);
     }
     if buf.len() < end {
-        return ended(next, next.full, 2);
+        return ended(next, next.full, DONE);
     }
     let place = place(out, next.full);
     let state = next.state;
@@ -120,11 +138,11 @@ pub(crate) fn take(
                 from: at,
                 at: behind(at, line.used, end),
                 full,
-                go: 0,
+                go: AGAIN,
             }
         }
-        Turn::Refused(_) => ended(next, full, 2),
-        Turn::Ends => ended(next, full, 2),
-        Turn::Wait => ended(next, full, 1),
+        Turn::Refused(_) => ended(next, full, DONE),
+        Turn::Ends => ended(next, full, DONE),
+        Turn::Wait => ended(next, full, READ),
     }
 }

@@ -9,6 +9,7 @@ use borrow.Author.Tests.{le-leb, lt-leb}
 use lib.Dec.{leb}
 use lib.ListN.{length, take, getD, length-take, drop-of-length-le}
 use lib.Seq.{drop-cons, getD-take}
+use Rattle.refusals.specs.Numbers.{imageTooLarge, endsTooEarly}
 use Rattle.image.specs.Seen.{limit, tagged, ahead, endOf}
 
 -- a byte that is there
@@ -27,11 +28,11 @@ ahead-none s used over =
     rw (drop-of-length-le (take limit s) past)
 
 -- which refusal a missing byte gives
-pub end-over : (s : List ℕ) → limit ≤ length s → endOf s ≡ 13
+pub end-over : (s : List ℕ) → limit ≤ length s → endOf s ≡ imageTooLarge
 unfolding endOf
 end-over s h = rw (le-leb limit (length s) h)
 
-pub end-short : (s : List ℕ) → length s < limit → endOf s ≡ 14
+pub end-short : (s : List ℕ) → length s < limit → endOf s ≡ endsTooEarly
 unfolding endOf
 end-short s h = rw (lt-leb limit (length s) h)
 
@@ -40,6 +41,6 @@ pub end-refuses : (s : List ℕ) → endOf s ≡ 0 → ⊥
 unfolding endOf
 end-refuses s = by (leb limit (length s))
   where
-    by : (b : Bool) → _≡_ {A = ℕ} (cond b 13 14) 0 → ⊥
+    by : (b : Bool) → _≡_ {A = ℕ} (cond b imageTooLarge endsTooEarly) 0 → ⊥
     by true e = omega arith
     by false e = omega arith

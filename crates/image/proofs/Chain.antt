@@ -4,24 +4,26 @@ use Prim.Native.Nat.{ℕ, _+_, _*_, _-_, _≤_, _<_}
 use mathlib.Core.Bool.{Bool, true, false}
 use mathlib.Core.List.{List, _∷_, _++_, append-assoc}
 use mathlib.Core.Path.{_≡_, refl, sym, ap, _∙_}
-use mathlib.Core.Logic.{_⊎_, inl, inr}
+use mathlib.Core.Logic.{inl, inr}
 use native.Mathlib.Omega.{arith}
 use native.Mathlib.Nat.{mul-one}
 use borrow.Author.Tests.{lt-ltb, le-ltb, ltb-true, ltb-false}
 use lib.Dec.{ltb}
 use lib.ListN.{length, take, drop, length-drop}
 use lib.Seq.{length-take-le}
+use Rattle.refusals.specs.Numbers.{imageTooLarge, endsTooEarly, pixelTooLarge}
 use Rattle.image.specs.declared.Numbers.{Numbers}
 use Rattle.image.specs.Seen.{limit, Seen, ahead, endOf}
 use Rattle.image.specs.Step.{Step, stopped, found, andThen}
-use Rattle.image.specs.Fields.{magic, number}
+use Rattle.image.specs.Fields.{magic, numberField}
 use Rattle.image.specs.Pixels.{pixelBytes, rasterBytes, pixelAt, largest}
 use Rattle.image.specs.Reading.{refusedWith, withRaster, numbersOf}
+use Rattle.image.specs.Promised.{Lies}
 use Rattle.image.proofs.Forms.{number-found}
 use Rattle.image.proofs.Tags.{ahead-within}
 
 -- a number that was found lies in its range, and so do the bytes used with it
-pub field-bounds : (s : List ℕ) (used end top : ℕ) {v u : ℕ} {rest : List Seen} → number end top (ahead s used) ≡ found v u rest
+pub field-bounds : (s : List ℕ) (used end top : ℕ) {v u : ℕ} {rest : List Seen} → numberField end top (ahead s used) ≡ found v u rest
     → (v ≤ top) × (u ≤ limit)
 field-bounds s used end top {v} {u} {rest} e =
     let f = number-found end top (ahead s used) e in
@@ -31,19 +33,19 @@ field-bounds s used end top {v} {u} {rest} e =
 
 -- the raster's faults, each with what it leads to
 module _ (per : ℕ) (s : List ℕ) (width height maxval start : ℕ) where
-  pub raster-over : limit < start + rasterBytes per width height → withRaster per s width height maxval start ≡ refusedWith 13
+  pub raster-over : limit < start + rasterBytes per width height → withRaster per s width height maxval start ≡ refusedWith imageTooLarge
   unfolding withRaster
   raster-over h = rw (lt-ltb limit (start + rasterBytes per width height) h)
 
   pub raster-short : start + rasterBytes per width height ≤ limit → length s < start + rasterBytes per width height
-      → withRaster per s width height maxval start ≡ refusedWith 14
+      → withRaster per s width height maxval start ≡ refusedWith endsTooEarly
   unfolding withRaster
   raster-short h k =
       rw (le-ltb limit (start + rasterBytes per width height) h, lt-ltb (length s) (start + rasterBytes per width height) k)
 
   pub raster-bright : start + rasterBytes per width height ≤ limit → start + rasterBytes per width height ≤ length s
       → ltb maxval (largest (pixelAt per (take (rasterBytes per width height) (drop start s))) (width * height)) ≡ true
-      → withRaster per s width height maxval start ≡ refusedWith 15
+      → withRaster per s width height maxval start ≡ refusedWith pixelTooLarge
   unfolding withRaster
   raster-bright h k b =
       rw (le-ltb limit (start + rasterBytes per width height) h, le-ltb (length s) (start + rasterBytes per width height) k, b)
@@ -66,26 +68,13 @@ part-bright s width height maxval start h =
     rw (size, length-take-le (width * height * 1) (drop start s) fits)
     (ap (λ (n : ℕ). ltb maxval (largest (pixelAt pixelBytes (take (width * height * 1) (drop start s))) n)) (mul-one (width * height)))
 
--- what every reading is: refused with all numbers 0, or taken with a raster of the size that the numbers say
-abbrev pub Shape : Numbers → Type 0
-Shape numbers =
-    (numbers ≡ refusedWith (numbers .refusal))
-    ⊎ ((numbers .refusal ≡ 0) × (numbers .used ≡ numbers .start + rasterBytes pixelBytes (numbers .width) (numbers .height)))
-
--- and the part that it names lies in the slice
-pub record Lies (s : List ℕ) (numbers : Numbers) : Type 0 where
-  pub order : numbers .start ≤ numbers .used
-  pub there : numbers .used ≤ length s
-  pub within : numbers .used ≤ limit
-  pub shape : Shape numbers
-
 refused-lies : (s : List ℕ) (refusal : ℕ) → Lies s (refusedWith refusal)
 refused-lies s refusal = record { order = omega arith; there = omega arith; within = omega arith; shape = inl refl }
 
 -- a header's answer goes by the raster's faults
 pub raster-cases : (P : Numbers → Type 0) (s : List ℕ) (width height maxval start : ℕ)
-    → (start + rasterBytes pixelBytes width height ≤ limit → length s < start + rasterBytes pixelBytes width height → P (refusedWith 14))
-    → P (refusedWith 13) → P (refusedWith 15)
+    → (start + rasterBytes pixelBytes width height ≤ limit → length s < start + rasterBytes pixelBytes width height → P (refusedWith endsTooEarly))
+    → P (refusedWith imageTooLarge) → P (refusedWith pixelTooLarge)
     → (start + rasterBytes pixelBytes width height ≤ limit → start + rasterBytes pixelBytes width height ≤ length s
     → P record { refusal = 0; width = width; height = height; maxval = maxval; start = start; used = start + rasterBytes pixelBytes width height })
     → P (withRaster pixelBytes s width height maxval start)
@@ -113,7 +102,7 @@ raster-cases P s width height maxval start short over dim taken = by₁ (ltb lim
 
 raster-lies : (s : List ℕ) (width height maxval start : ℕ) → Lies s (withRaster pixelBytes s width height maxval start)
 raster-lies s width height maxval start =
-    raster-cases (Lies s) s width height maxval start (λ _ _. refused-lies s 14) (refused-lies s 13) (refused-lies s 15)
+    raster-cases (Lies s) s width height maxval start (λ _ _. refused-lies s endsTooEarly) (refused-lies s imageTooLarge) (refused-lies s pixelTooLarge)
     (λ h k. record { order = omega arith; there = k; within = h; shape = inr (refl, refl) })
 
 -- what holds of every refusal that a step can stop at, and of whatever the next step makes, holds of the two together
@@ -126,7 +115,7 @@ pub reading-lies : (s : List ℕ) → Lies s (numbersOf s)
 unfolding numbersOf
 reading-lies s =
     chained (Lies s) (magic (endOf s) 53 (ahead s 0)) _ (refused-lies s) λ _ _ l₁.
-    chained (Lies s) (number (endOf s) 1024 l₁) _ (refused-lies s) λ width _ l₂.
-    chained (Lies s) (number (endOf s) 1024 l₂) _ (refused-lies s) λ height _ l₃.
-    chained (Lies s) (number (endOf s) 255 l₃) _ (refused-lies s) λ maxval start _.
+    chained (Lies s) (numberField (endOf s) 1024 l₁) _ (refused-lies s) λ width _ l₂.
+    chained (Lies s) (numberField (endOf s) 1024 l₂) _ (refused-lies s) λ height _ l₃.
+    chained (Lies s) (numberField (endOf s) 255 l₃) _ (refused-lies s) λ maxval start _.
     raster-lies s width height maxval start

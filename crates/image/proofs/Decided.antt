@@ -11,48 +11,44 @@ use borrow.Author.Tests.{leb-true, leb-false, eqb-true, eqb-false}
 use lib.Dec.{leb, eqb}
 use lib.ListN.{length, take, drop, take-append-drop}
 use lib.Seq.{take-take, take-length}
+use Rattle.refusals.specs.Numbers.{endsTooEarly}
 use Rattle.image.specs.Reading.{numbersOf}
+use Rattle.image.specs.Promised.{DecidedAfter}
 use Rattle.image.proofs.Prefix.{prefix-law}
-
-pub record DecidedAfter (s : List ℕ) : Type 0 where
-  pub bytes : ℕ
-  pub there : bytes ≤ length s
-  pub waits : (n : ℕ) → n < bytes → numbersOf (take n s) .refusal ≡ 14
-  pub decides : (n : ℕ) → bytes ≤ n → numbersOf (take n s) ≡ numbersOf s
 
 -- of the first k prefixes all wait, or there is a first one that does not
 record Stops (s : List ℕ) (k : ℕ) : Type 0 where
   at : ℕ
   below : at < k
-  goes : numbersOf (take at s) .refusal ≡ 14 → ⊥
-  waits : (n : ℕ) → n < at → numbersOf (take n s) .refusal ≡ 14
+  goes : numbersOf (take at s) .refusal ≡ endsTooEarly → ⊥
+  waits : (n : ℕ) → n < at → numbersOf (take n s) .refusal ≡ endsTooEarly
 
 AllWait : List ℕ → ℕ → Type 0
-AllWait s k = (n : ℕ) → n < k → numbersOf (take n s) .refusal ≡ 14
+AllWait s k = (n : ℕ) → n < k → numbersOf (take n s) .refusal ≡ endsTooEarly
 
 search-stop : (s : List ℕ) (k : ℕ) → AllWait s k ⊎ Stops s k
 unfolding AllWait
 search-stop s zero = inl (λ n lt. absurd (omega arith))
-search-stop s (suc k) = by (search-stop s k) (eqb (numbersOf (take k s) .refusal) 14) refl
+search-stop s (suc k) = by (search-stop s k) (eqb (numbersOf (take k s) .refusal) endsTooEarly) refl
   where
-    by : AllWait s k ⊎ Stops s k → (b : Bool) → eqb (numbersOf (take k s) .refusal) 14 ≡ b → AllWait s (suc k) ⊎ Stops s (suc k)
+    by : AllWait s k ⊎ Stops s k → (b : Bool) → eqb (numbersOf (take k s) .refusal) endsTooEarly ≡ b → AllWait s (suc k) ⊎ Stops s (suc k)
     by (inr st) b e = inr record { at = st .at; below = omega (arith, st .below); goes = st .goes; waits = st .waits }
-    by (inl all) false e = inr record { at = k; below = omega arith; goes = eqb-false (numbersOf (take k s) .refusal) 14 e; waits = all }
+    by (inl all) false e = inr record { at = k; below = omega arith; goes = eqb-false (numbersOf (take k s) .refusal) endsTooEarly e; waits = all }
     by (inl all) true e = inl (λ n lt. last n lt (leb k n) refl)
       where
-        last : (n : ℕ) → n < suc k → (b : Bool) → leb k n ≡ b → numbersOf (take n s) .refusal ≡ 14
+        last : (n : ℕ) → n < suc k → (b : Bool) → leb k n ≡ b → numbersOf (take n s) .refusal ≡ endsTooEarly
         last n lt true h =
             let same : n ≡ k = omega (arith, leb-true k n h) in
-            ap (λ (m : ℕ). numbersOf (take m s) .refusal) same ∙ eqb-true (numbersOf (take k s) .refusal) 14 e
+            ap (λ (m : ℕ). numbersOf (take m s) .refusal) same ∙ eqb-true (numbersOf (take k s) .refusal) endsTooEarly e
         last n lt false h = all n (leb-false k n h)
 
 -- from the bytes that decide on, nothing changes
-same-from : (s : List ℕ) (m n : ℕ) → (numbersOf (take m s) .refusal ≡ 14 → ⊥) → m ≤ n → numbersOf (take n s) ≡ numbersOf (take m s)
+same-from : (s : List ℕ) (m n : ℕ) → (numbersOf (take m s) .refusal ≡ endsTooEarly → ⊥) → m ≤ n → numbersOf (take n s) ≡ numbersOf (take m s)
 same-from s m n goes h =
     ap numbersOf (sym (take-append-drop m (take n s)) ∙ ap (λ (l : List ℕ). l ++ drop m (take n s)) (take-take m n s h))
     ∙ prefix-law (take m s) (drop m (take n s)) goes
 
-pub decided : (s : List ℕ) → (numbersOf s .refusal ≡ 14 → ⊥) → DecidedAfter s
+pub decided : (s : List ℕ) → (numbersOf s .refusal ≡ endsTooEarly → ⊥) → DecidedAfter s
 unfolding AllWait
 decided s ne = by (search-stop s (suc (length s)))
   where

@@ -1,42 +1,92 @@
--- Demand 1 for both calls: a refused reading gives numbers 0 and the empty part at the start of the slice.
+-- Demand 1 and uniqueness of both calls: what each one's statement says is what its row says.
+-- Of the raster two references can be told apart only by the name that the program logic gives each loan, which no program sees: what is
+-- settled is all that one can see, the place and the bytes. No number can be read off a part, so that of the raster demand 1 is
+-- `raster-refused`.
 -- Assumes nothing.
 use Prim.Native.Nat.{ℕ, suc, _+_, _-_}
 use mathlib.Core.List.{List, []}
-use mathlib.Core.Path.{_≡_, ap, _∙_}
+use mathlib.Core.Path.{_≡_, refl, sym, ap, _∙_}
 use mathlib.Core.Logic.{⊎-elim}
 use native.Mathlib.Omega.{arith}
+use contract.Lifetimes.{Lfts}
 use denote.Ref.{RefT, ptr, now}
-use lib.Dec.{lit<}
 use Rattle.refusals.specs.First.{firstOf}
-use Rattle.refusals.proofs.Laws.{FirstThatHolds, first-holds, NoneHolds, nothing-holds}
+use Rattle.refusals.specs.Call.{resultOf, leftOf}
+use Rattle.refusals.specs.Demand1.{NoneHolds, FirstThatHolds, Tells, Settles, Promised}
+use Rattle.refusals.proofs.Calls.{asks-leaves, promised, settled, result-cases, passed-on-numbered, passed-on-none, passed-on-alone, written-out, first-holds, nothing-holds}
 use Rattle.image.specs.declared.Numbers.{Numbers}
 use Rattle.image.specs.Pixels.{pixelBytes}
-use Rattle.image.specs.Reading.{refusedWith, rasterFaults, numbersOf}
-use Rattle.image.specs.Part.{cut, rasterOf}
+use Rattle.image.specs.Reading.{refusedWith, rasterFaults, numbersOf, headerCall}
+use Rattle.image.specs.Part.{Part, partOf, cut, rasterOf, emptyPart, rasterCall}
 use Rattle.image.proofs.Chain.{reading-lies}
+use Rattle.image.proofs.header.Reads as header-reads
+use Rattle.image.proofs.raster.Reads as raster-reads
 
 -- ledger 1.3: a refused reading has nothing but its refusal …
 pub refused-all-zero : (s : List ℕ) → (numbersOf s .refusal ≡ 0 → ⊥) → numbersOf s ≡ refusedWith (numbersOf s .refusal)
 refused-all-zero s ne = ⊎-elim (λ zeros. zeros) (λ taken. absurd (ne (taken .0))) (reading-lies s .shape)
 
 -- … and its raster is the empty part where the slice starts
-pub refused-empty : (s : RefT (List ℕ)) → (numbersOf (now s) .refusal ≡ 0 → ⊥)
-    → rasterOf s ≡ record { start = ptr s; bytes = [] }
-refused-empty s ne =
+pub raster-refused : (s : RefT (List ℕ)) → (numbersOf (now s) .refusal ≡ 0 → ⊥) → rasterOf s ≡ emptyPart s
+raster-refused s ne =
     ap (λ (n : Numbers). cut s (n .start) (n .used - n .start)) (refused-all-zero (now s) ne)
     ∙ λ i. record { start = (ptr s .0, zero-add i); bytes = [] }
   where
     zero-add : 0 + ptr s .1 ≡ ptr s .1
     zero-add = omega arith
 
--- ledger 1.2: of the raster's faults the first that holds gives the refusal (those of the header come in the order of its bytes)
-pub raster-first : (s : List ℕ) (width height maxval start refusal : ℕ)
-    → firstOf (rasterFaults pixelBytes s width height maxval start) ≡ suc refusal
-    → FirstThatHolds (rasterFaults pixelBytes s width height maxval start) (suc refusal)
-raster-first s width height maxval start refusal e =
-    first-holds (rasterFaults pixelBytes s width height maxval start) refusal (lit< tt, (lit< tt, (lit< tt, tt))) e
+-- the one fault is the reading's own refusal, and what then comes back is what the reading gives
+pub header-result : (s : List ℕ) → resultOf (headerCall s) ≡ numbersOf s
+unfolding headerCall
+header-result s =
+    result-cases (λ r. r ≡ numbersOf s) (headerCall s) (λ e. refl)
+    (λ number e. (let own : numbersOf s .refusal ≡ suc number = sym (passed-on-alone (numbersOf s .refusal)) ∙ e in
+    ap refusedWith (sym own) ∙ sym (refused-all-zero s (λ none. omega arith))))
 
-pub raster-none : (s : List ℕ) (width height maxval start : ℕ) → firstOf (rasterFaults pixelBytes s width height maxval start) ≡ 0
-    → NoneHolds (rasterFaults pixelBytes s width height maxval start)
-raster-none s width height maxval start e =
-    nothing-holds (rasterFaults pixelBytes s width height maxval start) (lit< tt, (lit< tt, (lit< tt, tt))) e
+pub raster-result : (s : RefT (List ℕ)) → resultOf (rasterCall s) ≡ rasterOf s
+unfolding rasterCall
+raster-result s =
+    result-cases (λ r. r ≡ rasterOf s) (rasterCall s) (λ e. refl)
+    (λ number e. (let own : numbersOf (now s) .refusal ≡ suc number = sym (passed-on-alone (numbersOf (now s) .refusal)) ∙ e in
+    sym (raster-refused s (λ none. omega arith))))
+
+-- the bytes are left as they are, and the numbers tell their refusal
+pub header-leaves : (s : List ℕ) → s ≡ leftOf (headerCall s)
+unfolding headerCall
+header-leaves s = asks-leaves (headerCall s) refl
+
+pub header-tells : (s : List ℕ) → Tells (λ (n : Numbers). n .refusal) (headerCall s)
+unfolding headerCall
+header-tells s =
+    record {
+      numbered = (passed-on-numbered (numbersOf s .refusal), tt);
+      given-0 = λ none. passed-on-none (numbersOf s .refusal) (none .0);
+      back-own = λ number. refl;
+    }
+
+module _ (κs : Lfts 1) where
+  -- both promises of `header`
+  pub header-promised : Promised (header-reads.Post κs) (λ r. r) (λ a e. now (a .0)) (λ a. headerCall (now (a .0))) (λ (n : Numbers). n .refusal)
+  header-promised =
+      promised _ _ _ _ (λ a r e p. (p ∙ sym (header-result (now (a .0))), header-leaves (now (a .0)))) _ (λ a. header-tells (now (a .0)))
+
+  -- uniqueness of `raster`
+  pub raster-settled : Settles {Shown = Part} (raster-reads.Post κs) partOf (λ a e. now (a .0))
+  unfolding rasterCall
+  raster-settled =
+      settled (raster-reads.Post κs) partOf (λ a e. now (a .0)) (λ a. rasterCall (a .0))
+      (λ a r e p. (p ∙ sym (raster-result (a .0)), asks-leaves (rasterCall (a .0)) refl))
+
+-- ledger 1.2: of the raster's faults the first that holds gives the refusal (those of the header come in the order of its bytes)
+module _ (s : List ℕ) (width height maxval start : ℕ) where
+  pub raster-first : (refusal : ℕ) → firstOf (rasterFaults pixelBytes s width height maxval start) ≡ suc refusal
+      → FirstThatHolds (rasterFaults pixelBytes s width height maxval start) (suc refusal)
+  raster-first refusal e =
+      let faults = rasterFaults pixelBytes s width height maxval start in
+      first-holds faults refusal (written-out faults tt) e
+
+  pub raster-none : firstOf (rasterFaults pixelBytes s width height maxval start) ≡ 0
+      → NoneHolds (rasterFaults pixelBytes s width height maxval start)
+  raster-none e =
+      let faults = rasterFaults pixelBytes s width height maxval start in
+      nothing-holds faults (written-out faults tt) e

@@ -14,10 +14,11 @@ use Rattle.refusals.specs.First.{firstOf, unlessRefused}
 use Rattle.image.specs.declared.Numbers.{Numbers}
 use Rattle.image.specs.Seen.{limit, Seen, ahead, endOf}
 use Rattle.image.specs.Step.{andThen}
-use Rattle.image.specs.Fields.{white, magic, number}
+use Rattle.image.specs.Fields.{white, magic, numberField}
 use Rattle.image.specs.Pixels.{pixelBytes, rasterBytes, pixelAt, largest}
 use Rattle.image.specs.Reading.{refusedWith, rasterFaults, withRaster, numbersOf, rasterIn}
 use Rattle.image.specs.Format.{AllOf, Some, Numeral, Pgm}
+use Rattle.image.specs.Promised.{PgmOf}
 use Rattle.image.proofs.Ahead.{end-refuses}
 use Rattle.image.proofs.Largest.{largest-le, le-largest}
 use Rattle.image.proofs.Chain.{raster-taken}
@@ -46,13 +47,13 @@ record Accepted (s : List ℕ) : Type 0 where
 module _ (s : List ℕ) where
   after-height : ℕ → ℕ → List Seen → Numbers
   after-height width height l =
-      andThen refusedWith (number (endOf s) 255 l) λ maxval start rest. withRaster pixelBytes s width height maxval start
+      andThen refusedWith (numberField (endOf s) 255 l) λ maxval start rest. withRaster pixelBytes s width height maxval start
 
   after-width : ℕ → List Seen → Numbers
-  after-width width l = andThen refusedWith (number (endOf s) 1024 l) λ height used rest. after-height width height rest
+  after-width width l = andThen refusedWith (numberField (endOf s) 1024 l) λ height used rest. after-height width height rest
 
   after-sign : List Seen → Numbers
-  after-sign l = andThen refusedWith (number (endOf s) 1024 l) λ width used rest. after-width width rest
+  after-sign l = andThen refusedWith (numberField (endOf s) 1024 l) λ width used rest. after-width width rest
 
   accepted : numbersOf s .refusal ≡ 0 → Accepted s
   unfolding numbersOf after-height after-width after-sign ahead
@@ -62,16 +63,16 @@ module _ (s : List ℕ) where
       let p₁ = found-in (magic end 53 (ahead s 0)) (λ v u l. after-sign l) (magic-refuses end no-end 53 (ahead s 0)) e in
       let a₁ = magic-reads end 53 (take limit s) (p₁ .step-is) .0 in
       let e₁ : after-sign (p₁ .rest) .refusal ≡ 0 = sym (ap (λ (n : Numbers). n .refusal) (p₁ .goes-on)) ∙ e in
-      let p₂ = found-in (number end 1024 (p₁ .rest)) (λ v u l. after-width v l) (number-refuses end no-end 1024 (p₁ .rest)) e₁ in
-      let a₂ = number-reads end 1024 3 (a₁ .bytes) (ap (number end 1024) (sym (a₁ .seen-is)) ∙ p₂ .step-is) in
+      let p₂ = found-in (numberField end 1024 (p₁ .rest)) (λ v u l. after-width v l) (number-refuses end no-end 1024 (p₁ .rest)) e₁ in
+      let a₂ = number-reads end 1024 3 (a₁ .bytes) (ap (numberField end 1024) (sym (a₁ .seen-is)) ∙ p₂ .step-is) in
       let e₂ : after-width (p₂ .value) (p₂ .rest) .refusal ≡ 0 = sym (ap (λ (n : Numbers). n .refusal) (p₂ .goes-on)) ∙ e₁ in
-      let p₃ = found-in (number end 1024 (p₂ .rest)) (λ v u l. after-height (p₂ .value) v l) (number-refuses end no-end 1024 (p₂ .rest)) e₂ in
-      let a₃ = number-reads end 1024 (p₂ .used) (a₂ .bytes) (ap (number end 1024) (sym (a₂ .seen-is)) ∙ p₃ .step-is) in
+      let p₃ = found-in (numberField end 1024 (p₂ .rest)) (λ v u l. after-height (p₂ .value) v l) (number-refuses end no-end 1024 (p₂ .rest)) e₂ in
+      let a₃ = number-reads end 1024 (p₂ .used) (a₂ .bytes) (ap (numberField end 1024) (sym (a₂ .seen-is)) ∙ p₃ .step-is) in
       let e₃ : after-height (p₂ .value) (p₃ .value) (p₃ .rest) .refusal ≡ 0 = sym (ap (λ (n : Numbers). n .refusal) (p₃ .goes-on)) ∙ e₂ in
       let p₄ =
-      found-in (number end 255 (p₃ .rest)) (λ v u l. withRaster pixelBytes s (p₂ .value) (p₃ .value) v u)
+      found-in (numberField end 255 (p₃ .rest)) (λ v u l. withRaster pixelBytes s (p₂ .value) (p₃ .value) v u)
       (number-refuses end no-end 255 (p₃ .rest)) e₃ in
-      let a₄ = number-reads end 255 (p₃ .used) (a₃ .bytes) (ap (number end 255) (sym (a₃ .seen-is)) ∙ p₄ .step-is) in
+      let a₄ = number-reads end 255 (p₃ .used) (a₃ .bytes) (ap (numberField end 255) (sym (a₃ .seen-is)) ∙ p₄ .step-is) in
       record {
         r₁ = a₁ .bytes;
         r₂ = a₂ .bytes;
@@ -125,9 +126,6 @@ taken-faults s width height maxval start = by (firstOf (rasterFaults pixelBytes 
     by (suc n) e = e
 
 -- soundness: what is accepted is an image of the numbers given
-abbrev pub PgmOf : List ℕ → Numbers → Type 0
-PgmOf s numbers = Pgm s (numbers .width) (numbers .height) (numbers .maxval) (numbers .start) (numbers .used)
-
 pub accepted-is-pgm : (s : List ℕ) → numbersOf s .refusal ≡ 0 → PgmOf s (numbersOf s)
 unfolding whole end-of
 accepted-is-pgm s e =

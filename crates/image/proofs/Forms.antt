@@ -7,11 +7,12 @@ use mathlib.Core.Path.{_≡_, refl, sym, ap, _∙_}
 use native.Mathlib.Omega.{arith}
 use borrow.Author.Tests.{eqb-true, eq-eqb}
 use lib.Dec.{eqb}
+use Rattle.refusals.specs.Numbers.{wrongByte, numberOutOfRange}
 use Rattle.refusals.specs.First.{outside}
 use Rattle.refusals.proofs.Laws.{in-range, not-outside}
 use Rattle.image.specs.Seen.{Seen}
 use Rattle.image.specs.Step.{Step, stopped, found, andThen}
-use Rattle.image.specs.Fields.{white, digit, oneOf, afterWhite, judged, moreDigits, number, magic}
+use Rattle.image.specs.Fields.{white, digit, oneOf, afterWhite, judged, moreDigits, numberField, magic}
 use Rattle.image.specs.Format.{AllOf, valueOf, Numeral}
 use Rattle.image.proofs.Steps.{one-found, digits-over, digits-more, number-digit}
 use Rattle.image.proofs.Runs.{digit-not-white}
@@ -53,7 +54,7 @@ judged-found : (top v u : ℕ) (r : List Seen) {value used : ℕ} {rest : List S
 unfolding judged
 judged-found top v u r {value} {used} {rest} = by (outside 1 top v) refl
   where
-    by : (b : Bool) → outside 1 top v ≡ b → cond b (stopped 12) (found v u r) ≡ found value used rest
+    by : (b : Bool) → outside 1 top v ≡ b → cond b (stopped numberOutOfRange) (found v u r) ≡ found value used rest
         → (v ≡ value) × (u ≡ used) × (r ≡ rest) × (1 ≤ value) × (value ≤ top)
     by true o e = never e
     by false o e =
@@ -74,7 +75,7 @@ ending-found end top high (seen ∷ l) {value} {used} {rest} e =
   where
     by : (w d : Bool) → white (seen .byte) ≡ w → digit (seen .byte) ≡ d
         → (moreDigits end top (10 * high + (seen .byte - 48)) l ≡ found value used rest → Ending top (10 * high + (seen .byte - 48)) value used l rest)
-        → cond w (judged top high (seen .upto) l) (cond d (moreDigits end top (10 * high + (seen .byte - 48)) l) (stopped 11)) ≡ found value used rest
+        → cond w (judged top high (seen .upto) l) (cond d (moreDigits end top (10 * high + (seen .byte - 48)) l) (stopped wrongByte)) ≡ found value used rest
         → Ending top high value used (seen ∷ l) rest
     by true d ew ed more e =
         let j = judged-found top high (seen .upto) l e in
@@ -147,15 +148,15 @@ unfolding oneOf
 one-finds kind end [] e = never e
 one-finds kind end (seen ∷ l) {value} {used} {rest} e = by (kind (seen .byte)) refl e
   where
-    by : (b : Bool) → kind (seen .byte) ≡ b → cond b (found (seen .byte) (seen .upto) l) (stopped 11) ≡ found value used rest
+    by : (b : Bool) → kind (seen .byte) ≡ b → cond b (found (seen .byte) (seen .upto) l) (stopped wrongByte) ≡ found value used rest
         → (x : Seen) × (seen ∷ l ≡ x ∷ rest) × (kind (x .byte) ≡ true) × (x .byte ≡ value) × (x .upto ≡ used)
     by true k e = (seen, ap (λ (m : List Seen). seen ∷ m) (cc), k, cc, cc)
     by false k e = never e
 
 -- a number is found exactly where its field stands
-pub number-found : (end top : ℕ) (l : List Seen) {value used : ℕ} {rest : List Seen} → number end top l ≡ found value used rest
+pub number-found : (end top : ℕ) (l : List Seen) {value used : ℕ} {rest : List Seen} → numberField end top l ≡ found value used rest
     → Field top value used l rest
-unfolding number valueOf
+unfolding numberField valueOf
 number-found end top l {value} {used} {rest} = by (oneOf digit end (afterWhite l)) refl
   where
     by : (step : Step) → oneOf digit end (afterWhite l) ≡ step
@@ -186,7 +187,7 @@ number-found end top l {value} {used} {rest} = by (oneOf digit end (afterWhite l
 
 pub number-finds : (end top : ℕ) (before digits : List Seen) (last : Seen) (rest : List Seen) (value : ℕ)
     → AllOf white (bytesOf before) → Numeral top value (bytesOf digits) → white (last .byte) ≡ true
-    → number end top (before ++ (digits ++ last ∷ rest)) ≡ found value (last .upto) rest
+    → numberField end top (before ++ (digits ++ last ∷ rest)) ≡ found value (last .upto) rest
 unfolding valueOf
 number-finds end top before [] last rest value blank n w = let z = n .digits .not-none in absurd (omega arith)
 number-finds end top before (seen ∷ digits) last rest value blank n w =

@@ -11,14 +11,14 @@ use borrow.Author.Tests.{leb-true, leb-false}
 use lib.Dec.{leb}
 use lib.ListN.{length, take, drop, getD, drop-of-length-le, List·getD-eq-default}
 use lib.Seq.{drop-cons}
-use Rattle.image.specs.Pixels.{written, pixelAt, largest}
+use Rattle.image.specs.Pixels.{bytesValue, pixelAt, largest}
 
 -- a pixel of one byte is the byte at its position
 pub pixel-one : (raster : List ℕ) (position : ℕ) → pixelAt 1 raster position ≡ getD raster position 0
-unfolding pixelAt written
+unfolding pixelAt bytesValue
 pixel-one raster position = rw (mul-one position) (by (leb (length raster) position) refl)
   where
-    by : (b : Bool) → leb (length raster) position ≡ b → written 0 (take 1 (drop position raster)) ≡ getD raster position 0
+    by : (b : Bool) → leb (length raster) position ≡ b → bytesValue 0 (take 1 (drop position raster)) ≡ getD raster position 0
     by true e =
         let over : length raster ≤ position = leb-true (length raster) position e in
         rw (drop-of-length-le raster over, List·getD-eq-default raster 0 over)

@@ -5,7 +5,6 @@ pub mod Forms
 pub mod Largest
 pub mod Tags
 pub mod Chain
-pub mod Unique
 pub mod Demand1
 pub mod Link
 pub mod Refuses

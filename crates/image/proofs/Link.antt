@@ -9,7 +9,7 @@ use native.Mathlib.Omega.{arith}
 use lib.ListN.{length}
 use Rattle.image.specs.Seen.{Seen, tagged}
 use Rattle.image.specs.Step.{found}
-use Rattle.image.specs.Fields.{white, number, magic}
+use Rattle.image.specs.Fields.{white, numberField, magic}
 use Rattle.image.specs.Format.{AllOf, Numeral}
 use Rattle.image.proofs.Forms.{bytesOf, number-found, number-finds, magic-found, magic-finds}
 
@@ -100,7 +100,7 @@ pub record Left (P : List ℕ → Type 0) (upto : ℕ) (rest : List Seen) : Type
   pub seen-is : rest ≡ tagged upto bytes
   pub holds : P bytes
 
-pub number-reads : (end top used : ℕ) (m : List ℕ) {value upto : ℕ} {rest : List Seen} → number end top (tagged used m) ≡ found value upto rest
+pub number-reads : (end top used : ℕ) (m : List ℕ) {value upto : ℕ} {rest : List Seen} → numberField end top (tagged used m) ≡ found value upto rest
     → Left (λ r. Numbered top value used upto m r) upto rest
 number-reads end top used m {value} {upto} {rest} e =
     let f = number-found end top (tagged used m) e in
@@ -128,11 +128,11 @@ number-reads end top used m {value} {upto} {rest} e =
 
 pub number-read : (end top used : ℕ) (blank digits : List ℕ) (last : ℕ) (rest : List ℕ) (value : ℕ) → AllOf white blank → Numeral top value digits
     → white last ≡ true
-    → number end top (tagged used (blank ++ (digits ++ last ∷ rest)))
+    → numberField end top (tagged used (blank ++ (digits ++ last ∷ rest)))
     ≡ found value (suc (used + length blank + length digits)) (tagged (suc (used + length blank + length digits)) rest)
 unfolding tagged
 number-read end top used blank digits last rest value w n l =
-    ap (number end top)
+    ap (numberField end top)
     (tagged-append used blank (digits ++ last ∷ rest)
     ∙ ap (λ (m : List Seen). tagged used blank ++ m) (tagged-append (used + length blank) digits (last ∷ rest)))
     ∙ number-finds end top (tagged used blank) (tagged (used + length blank) digits)

@@ -7,6 +7,7 @@ use mathlib.Core.Path.{_≡_, refl, sym, ap, _∙_}
 use native.Mathlib.Omega.{arith}
 use Rattle.image.specs.Fields.{white, digit}
 use Rattle.image.specs.Format.{AllOf, Some, HeaderBytes}
+use Rattle.image.specs.Promised.{SameParts}
 use Rattle.image.proofs.Runs.{digit-not-white, white-not-digit}
 
 -- the list goes on with a byte that is not of the kind
@@ -41,16 +42,7 @@ breaks kind other apart [] rest h = let z = h .not-none in absurd (omega arith)
 breaks kind other apart (byte ∷ run) rest h = apart byte (h .all .0)
 
 module _ {width height maxval : ℕ} {bytes : List ℕ} (p q : HeaderBytes width height maxval bytes) where
-  pub record SameParts : Type 0 where
-    pub white₁ : p .white₁ ≡ q .white₁
-    pub digits₁ : p .digits₁ ≡ q .digits₁
-    pub white₂ : p .white₂ ≡ q .white₂
-    pub digits₂ : p .digits₂ ≡ q .digits₂
-    pub white₃ : p .white₃ ≡ q .white₃
-    pub digits₃ : p .digits₃ ≡ q .digits₃
-    pub last : p .last ≡ q .last
-
-  pub one-reading : SameParts
+  pub one-reading : SameParts p q
   one-reading =
       let p₆ = p .digits₃ ++ (p .last ∷ []) in
       let q₆ = q .digits₃ ++ (q .last ∷ []) in

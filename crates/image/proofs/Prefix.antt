@@ -9,11 +9,12 @@ use borrow.Author.Tests.{ltb-true, ltb-false, leb-true, leb-false}
 use lib.Dec.{ltb, leb, eqb}
 use lib.ListN.{length, take, drop, length-append, length-drop}
 use lib.Seq.{take-all, take-append-le, drop-append-le, take-append-add}
+use Rattle.refusals.specs.Numbers.{wrongByte, numberOutOfRange, endsTooEarly}
 use Rattle.refusals.specs.First.{outside}
 use Rattle.image.specs.declared.Numbers.{Numbers}
 use Rattle.image.specs.Seen.{limit, Seen, tagged, ahead, endOf}
 use Rattle.image.specs.Step.{Step, stopped, found, andThen}
-use Rattle.image.specs.Fields.{white, digit, oneOf, afterWhite, judged, moreDigits, number, magic}
+use Rattle.image.specs.Fields.{white, digit, oneOf, afterWhite, judged, moreDigits, numberField, magic}
 use Rattle.image.specs.Pixels.{pixelBytes, rasterBytes, pixelAt, largest}
 use Rattle.image.specs.Reading.{refusedWith, withRaster, numbersOf}
 use Rattle.image.proofs.Ahead.{end-over, end-short}
@@ -31,7 +32,7 @@ rest-stays (found value used rest) = refl
 
 -- a step does not wait for a byte
 abbrev Goes : Step → Type 0
-Goes (stopped refusal) = refusal ≡ 14 → ⊥
+Goes (stopped refusal) = refusal ≡ endsTooEarly → ⊥
 Goes (found value used rest) = Unit {0}
 
 -- each field, where it waits for no byte, is the same over more bytes, whatever a missing byte gives there
@@ -43,30 +44,30 @@ module _ (end : ℕ) (more : List Seen) where
   cond-rest true x y x′ y′ ex ey = ex
   cond-rest false x y x′ y′ ex ey = ey
 
-  one-longer : (kind : ℕ → Bool) (l : List Seen) → Goes (oneOf kind 14 l) → oneOf kind end (l ++ more) ≡ onRest longer (oneOf kind 14 l)
+  one-longer : (kind : ℕ → Bool) (l : List Seen) → Goes (oneOf kind endsTooEarly l) → oneOf kind end (l ++ more) ≡ onRest longer (oneOf kind endsTooEarly l)
   unfolding oneOf longer
   one-longer kind [] g = absurd (g refl)
   one-longer kind (seen ∷ rest) g =
-      cond-rest (kind (seen .byte)) (found (seen .byte) (seen .upto) (rest ++ more)) (stopped 11) (found (seen .byte) (seen .upto) rest) (stopped 11) refl refl
+      cond-rest (kind (seen .byte)) (found (seen .byte) (seen .upto) (rest ++ more)) (stopped wrongByte) (found (seen .byte) (seen .upto) rest) (stopped wrongByte) refl refl
 
   judged-longer : (top value used : ℕ) (rest : List Seen) → judged top value used (rest ++ more) ≡ onRest longer (judged top value used rest)
   unfolding judged longer
   judged-longer top value used rest =
-      cond-rest (outside 1 top value) (stopped 12) (found value used (rest ++ more)) (stopped 12) (found value used rest) refl refl
+      cond-rest (outside 1 top value) (stopped numberOutOfRange) (found value used (rest ++ more)) (stopped numberOutOfRange) (found value used rest) refl refl
 
-  digits-longer : (top value : ℕ) (l : List Seen) → Goes (moreDigits 14 top value l)
-      → moreDigits end top value (l ++ more) ≡ onRest longer (moreDigits 14 top value l)
+  digits-longer : (top value : ℕ) (l : List Seen) → Goes (moreDigits endsTooEarly top value l)
+      → moreDigits end top value (l ++ more) ≡ onRest longer (moreDigits endsTooEarly top value l)
   unfolding moreDigits
   digits-longer top value [] g = absurd (g refl)
   digits-longer top value (seen ∷ rest) g =
       by (white (seen .byte)) (digit (seen .byte)) (digits-longer top (10 * value + (seen .byte - 48)) rest) g
     where
       by : (w d : Bool)
-          → (Goes (moreDigits 14 top (10 * value + (seen .byte - 48)) rest)
-          → moreDigits end top (10 * value + (seen .byte - 48)) (rest ++ more) ≡ onRest longer (moreDigits 14 top (10 * value + (seen .byte - 48)) rest))
-          → Goes (cond w (judged top value (seen .upto) rest) (cond d (moreDigits 14 top (10 * value + (seen .byte - 48)) rest) (stopped 11)))
-          → cond w (judged top value (seen .upto) (rest ++ more)) (cond d (moreDigits end top (10 * value + (seen .byte - 48)) (rest ++ more)) (stopped 11))
-          ≡ onRest longer (cond w (judged top value (seen .upto) rest) (cond d (moreDigits 14 top (10 * value + (seen .byte - 48)) rest) (stopped 11)))
+          → (Goes (moreDigits endsTooEarly top (10 * value + (seen .byte - 48)) rest)
+          → moreDigits end top (10 * value + (seen .byte - 48)) (rest ++ more) ≡ onRest longer (moreDigits endsTooEarly top (10 * value + (seen .byte - 48)) rest))
+          → Goes (cond w (judged top value (seen .upto) rest) (cond d (moreDigits endsTooEarly top (10 * value + (seen .byte - 48)) rest) (stopped wrongByte)))
+          → cond w (judged top value (seen .upto) (rest ++ more)) (cond d (moreDigits end top (10 * value + (seen .byte - 48)) (rest ++ more)) (stopped wrongByte))
+          ≡ onRest longer (cond w (judged top value (seen .upto) rest) (cond d (moreDigits endsTooEarly top (10 * value + (seen .byte - 48)) rest) (stopped wrongByte)))
       by true d again g = judged-longer top value (seen .upto) rest
       by false true again g = again g
       by false false again g = refl
@@ -90,38 +91,38 @@ module _ (end : ℕ) (more : List Seen) where
   then-longer (stopped refusal) step′ next next′ h n g = ap (λ (x : Step). andThen stopped x next′) (h g)
   then-longer (found v u rest) step′ next next′ h n g = ap (λ (x : Step). andThen stopped x next′) (h tt) ∙ n v u rest g
 
-  first-digit : (l : List Seen) → Goes (oneOf digit 14 (afterWhite l))
-      → oneOf digit end (afterWhite (l ++ more)) ≡ onRest longer (oneOf digit 14 (afterWhite l))
+  first-digit : (l : List Seen) → Goes (oneOf digit endsTooEarly (afterWhite l))
+      → oneOf digit end (afterWhite (l ++ more)) ≡ onRest longer (oneOf digit endsTooEarly (afterWhite l))
   unfolding oneOf
   first-digit l g = rw (after-longer l there) (one-longer digit (afterWhite l) g)
     where
       there : afterWhite l ≡ [] → ⊥
       there e = (rw e at g) refl
 
-  number-longer : (top : ℕ) (l : List Seen) → Goes (number 14 top l) → number end top (l ++ more) ≡ onRest longer (number 14 top l)
-  unfolding number
+  number-longer : (top : ℕ) (l : List Seen) → Goes (numberField endsTooEarly top l) → numberField end top (l ++ more) ≡ onRest longer (numberField endsTooEarly top l)
+  unfolding numberField
   number-longer top l g =
-      then-longer (oneOf digit 14 (afterWhite l)) (oneOf digit end (afterWhite (l ++ more)))
-      (λ byte used rest. moreDigits 14 top (byte - 48) rest) (λ byte used rest. moreDigits end top (byte - 48) rest)
+      then-longer (oneOf digit endsTooEarly (afterWhite l)) (oneOf digit end (afterWhite (l ++ more)))
+      (λ byte used rest. moreDigits endsTooEarly top (byte - 48) rest) (λ byte used rest. moreDigits end top (byte - 48) rest)
       (first-digit l) (λ v u rest h. digits-longer top (v - 48) rest h) g
 
-  magic-longer : (kind : ℕ) (l : List Seen) → Goes (magic 14 kind l) → magic end kind (l ++ more) ≡ onRest longer (magic 14 kind l)
+  magic-longer : (kind : ℕ) (l : List Seen) → Goes (magic endsTooEarly kind l) → magic end kind (l ++ more) ≡ onRest longer (magic endsTooEarly kind l)
   unfolding magic
   magic-longer kind l g =
-      then-longer (oneOf (eqb 80) 14 l) (oneOf (eqb 80) end (l ++ more)) _ _ (one-longer (eqb 80) l) (λ _ _ l₂ g₂.
-      then-longer (oneOf (eqb kind) 14 l₂) (oneOf (eqb kind) end (l₂ ++ more)) _ _ (one-longer (eqb kind) l₂) (λ _ _ l₃ g₃.
+      then-longer (oneOf (eqb 80) endsTooEarly l) (oneOf (eqb 80) end (l ++ more)) _ _ (one-longer (eqb 80) l) (λ _ _ l₂ g₂.
+      then-longer (oneOf (eqb kind) endsTooEarly l₂) (oneOf (eqb kind) end (l₂ ++ more)) _ _ (one-longer (eqb kind) l₂) (λ _ _ l₃ g₃.
       one-longer white l₃ g₃) g₂) g
 
 -- a whole reading, field by field
 chain-longer : (change : List Seen → List Seen) (step step′ : Step) (next next′ : ℕ → ℕ → List Seen → Numbers)
     → (Goes step → step′ ≡ onRest change step)
-    → ((v u : ℕ) (rest : List Seen) → (next v u rest .refusal ≡ 14 → ⊥) → next′ v u (change rest) ≡ next v u rest)
-    → (andThen refusedWith step next .refusal ≡ 14 → ⊥) → andThen refusedWith step′ next′ ≡ andThen refusedWith step next
+    → ((v u : ℕ) (rest : List Seen) → (next v u rest .refusal ≡ endsTooEarly → ⊥) → next′ v u (change rest) ≡ next v u rest)
+    → (andThen refusedWith step next .refusal ≡ endsTooEarly → ⊥) → andThen refusedWith step′ next′ ≡ andThen refusedWith step next
 chain-longer change (stopped refusal) step′ next next′ h n g = ap (λ (x : Step). andThen refusedWith x next′) (h g)
 chain-longer change (found v u rest) step′ next next′ h n g = ap (λ (x : Step). andThen refusedWith x next′) (h tt) ∙ n v u rest g
 
 -- the raster of a longer slice, where the shorter one is not too short
-raster-longer : (s more : List ℕ) (width height maxval start : ℕ) → (withRaster pixelBytes s width height maxval start .refusal ≡ 14 → ⊥)
+raster-longer : (s more : List ℕ) (width height maxval start : ℕ) → (withRaster pixelBytes s width height maxval start .refusal ≡ endsTooEarly → ⊥)
     → withRaster pixelBytes (s ++ more) width height maxval start ≡ withRaster pixelBytes s width height maxval start
 raster-longer s more width height maxval start ne = by₁ (ltb limit (start + rasterBytes pixelBytes width height)) refl
   where
@@ -167,34 +168,34 @@ raster-longer s more width height maxval start ne = by₁ (ltb limit (start + ra
 readingWith : ℕ → List Seen → List ℕ → Numbers
 readingWith end l s =
     andThen refusedWith (magic end 53 l) λ sign used rest.
-    andThen refusedWith (number end 1024 rest) λ width used rest.
-    andThen refusedWith (number end 1024 rest) λ height used rest.
-    andThen refusedWith (number end 255 rest) λ maxval start rest. withRaster pixelBytes s width height maxval start
+    andThen refusedWith (numberField end 1024 rest) λ width used rest.
+    andThen refusedWith (numberField end 1024 rest) λ height used rest.
+    andThen refusedWith (numberField end 255 rest) λ maxval start rest. withRaster pixelBytes s width height maxval start
 
 -- nothing more ahead: the slice reached the limit
-same-ahead : (end : ℕ) (l : List Seen) (s more : List ℕ) → (readingWith end l s .refusal ≡ 14 → ⊥)
+same-ahead : (end : ℕ) (l : List Seen) (s more : List ℕ) → (readingWith end l s .refusal ≡ endsTooEarly → ⊥)
     → readingWith end l (s ++ more) ≡ readingWith end l s
 unfolding readingWith
 same-ahead end l s more =
     chain-longer (λ m. m) (magic end 53 l) (magic end 53 l) _ _ (λ _. rest-stays (magic end 53 l)) λ _ _ l₁.
-    chain-longer (λ m. m) (number end 1024 l₁) (number end 1024 l₁) _ _ (λ _. rest-stays (number end 1024 l₁)) λ width _ l₂.
-    chain-longer (λ m. m) (number end 1024 l₂) (number end 1024 l₂) _ _ (λ _. rest-stays (number end 1024 l₂)) λ height _ l₃.
-    chain-longer (λ m. m) (number end 255 l₃) (number end 255 l₃) _ _ (λ _. rest-stays (number end 255 l₃)) λ maxval start _.
+    chain-longer (λ m. m) (numberField end 1024 l₁) (numberField end 1024 l₁) _ _ (λ _. rest-stays (numberField end 1024 l₁)) λ width _ l₂.
+    chain-longer (λ m. m) (numberField end 1024 l₂) (numberField end 1024 l₂) _ _ (λ _. rest-stays (numberField end 1024 l₂)) λ height _ l₃.
+    chain-longer (λ m. m) (numberField end 255 l₃) (numberField end 255 l₃) _ _ (λ _. rest-stays (numberField end 255 l₃)) λ maxval start _.
     raster-longer s more width height maxval start
 
 -- more ahead
-more-ahead : (end : ℕ) (l ext : List Seen) (s more : List ℕ) → (readingWith 14 l s .refusal ≡ 14 → ⊥)
-    → readingWith end (l ++ ext) (s ++ more) ≡ readingWith 14 l s
+more-ahead : (end : ℕ) (l ext : List Seen) (s more : List ℕ) → (readingWith endsTooEarly l s .refusal ≡ endsTooEarly → ⊥)
+    → readingWith end (l ++ ext) (s ++ more) ≡ readingWith endsTooEarly l s
 unfolding readingWith longer
 more-ahead end l ext s more =
-    chain-longer (λ m. m ++ ext) (magic 14 53 l) (magic end 53 (l ++ ext)) _ _ (magic-longer end ext 53 l) λ _ _ l₁.
-    chain-longer (λ m. m ++ ext) (number 14 1024 l₁) (number end 1024 (l₁ ++ ext)) _ _ (number-longer end ext 1024 l₁) λ width _ l₂.
-    chain-longer (λ m. m ++ ext) (number 14 1024 l₂) (number end 1024 (l₂ ++ ext)) _ _ (number-longer end ext 1024 l₂) λ height _ l₃.
-    chain-longer (λ m. m ++ ext) (number 14 255 l₃) (number end 255 (l₃ ++ ext)) _ _ (number-longer end ext 255 l₃) λ maxval start _.
+    chain-longer (λ m. m ++ ext) (magic endsTooEarly 53 l) (magic end 53 (l ++ ext)) _ _ (magic-longer end ext 53 l) λ _ _ l₁.
+    chain-longer (λ m. m ++ ext) (numberField endsTooEarly 1024 l₁) (numberField end 1024 (l₁ ++ ext)) _ _ (number-longer end ext 1024 l₁) λ width _ l₂.
+    chain-longer (λ m. m ++ ext) (numberField endsTooEarly 1024 l₂) (numberField end 1024 (l₂ ++ ext)) _ _ (number-longer end ext 1024 l₂) λ height _ l₃.
+    chain-longer (λ m. m ++ ext) (numberField endsTooEarly 255 l₃) (numberField end 255 (l₃ ++ ext)) _ _ (number-longer end ext 255 l₃) λ maxval start _.
     raster-longer s more width height maxval start
 
 -- the law
-pub prefix-law : (s more : List ℕ) → (numbersOf s .refusal ≡ 14 → ⊥) → numbersOf (s ++ more) ≡ numbersOf s
+pub prefix-law : (s more : List ℕ) → (numbersOf s .refusal ≡ endsTooEarly → ⊥) → numbersOf (s ++ more) ≡ numbersOf s
 unfolding numbersOf ahead readingWith
 prefix-law s more ne = by (leb limit (length s)) refl
   where
@@ -216,7 +217,7 @@ prefix-law s more ne = by (leb limit (length s)) refl
         ap (λ (k : ℕ). tagged 0 (take k (s ++ more))) room
         ∙ ap (tagged 0) (take-append-add s more (limit - length s))
         ∙ tagged-append 0 s (take (limit - length s) more) in
-        let whole : numbersOf s ≡ readingWith 14 (tagged 0 s) s =
+        let whole : numbersOf s ≡ readingWith endsTooEarly (tagged 0 s) s =
         (λ i. readingWith (end-short s short i) (tagged 0 (take-all limit s (le short) i)) s) in
         (λ i. readingWith (endOf (s ++ more)) (seen i) (s ++ more))
         ∙ more-ahead (endOf (s ++ more)) (tagged 0 s) ext s more (λ h. ne (ap (λ (n : Numbers). n .refusal) whole ∙ h))

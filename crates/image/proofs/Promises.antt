@@ -12,23 +12,16 @@ use Rattle.image.specs.declared.Numbers.{Numbers}
 use Rattle.image.specs.Seen.{limit}
 use Rattle.image.specs.Pixels.{pixelBytes, rasterBytes}
 use Rattle.image.specs.Reading.{numbersOf, rasterIn}
+use Rattle.image.specs.Promised.{InRange}
 use Rattle.image.proofs.Exact.{accepted-is-pgm}
-pub use Rattle.image.proofs.Chain.{Lies, reading-lies}
+pub use Rattle.image.proofs.Chain.{reading-lies}
 pub use Rattle.image.proofs.Largest.{pixel-one}
-pub use Rattle.image.proofs.Demand1.{refused-all-zero}
+pub use Rattle.image.proofs.Demand1.{refused-all-zero, header-result}
 pub use Rattle.image.proofs.Refuses.{refusal-range, waits-short}
 pub use Rattle.image.proofs.Prefix.{prefix-law, accepted-stays}
-pub use Rattle.image.proofs.Decided.{DecidedAfter, decided}
+pub use Rattle.image.proofs.Decided.{decided}
 
 -- the numbers of an accepted image are in range
-pub record InRange (numbers : Numbers) : Type 0 where
-  pub width-low : 1 ≤ numbers .width
-  pub width-high : numbers .width ≤ 1024
-  pub height-low : 1 ≤ numbers .height
-  pub height-high : numbers .height ≤ 1024
-  pub maxval-low : 1 ≤ numbers .maxval
-  pub maxval-high : numbers .maxval ≤ 255
-
 pub accepted-range : (s : List ℕ) → numbersOf s .refusal ≡ 0 → InRange (numbersOf s)
 accepted-range s e =
     let n = accepted-is-pgm s e .numbers in

@@ -9,11 +9,12 @@ use native.Mathlib.Omega.{arith}
 use borrow.Author.Tests.{leb-true, leb-false}
 use lib.Dec.{leb, eqb}
 use lib.ListN.{length}
+use Rattle.refusals.specs.Numbers.{wrongByte, numberOutOfRange, imageTooLarge, endsTooEarly, pixelTooLarge}
 use Rattle.refusals.specs.First.{outside}
 use Rattle.image.specs.declared.Numbers.{Numbers}
 use Rattle.image.specs.Seen.{limit, Seen, ahead, endOf}
 use Rattle.image.specs.Step.{Step, stopped, found, andThen}
-use Rattle.image.specs.Fields.{white, digit, oneOf, afterWhite, judged, moreDigits, number, magic}
+use Rattle.image.specs.Fields.{white, digit, oneOf, afterWhite, judged, moreDigits, numberField, magic}
 use Rattle.image.specs.Pixels.{pixelBytes, rasterBytes}
 use Rattle.image.specs.Reading.{refusedWith, numbersOf}
 use Rattle.image.proofs.Ahead.{end-over}
@@ -24,7 +25,7 @@ abbrev StopsAt : (ℕ → Type 0) → Step → Type 0
 StopsAt P (stopped refusal) = P refusal
 StopsAt P (found value used rest) = Unit {0}
 
-module _ (P : ℕ → Type 0) (wrong : P 11) (range : P 12) (end : ℕ) (missing : P end) where
+module _ (P : ℕ → Type 0) (wrong : P wrongByte) (range : P numberOutOfRange) (end : ℕ) (missing : P end) where
   then-stops : (step : Step) (next : ℕ → ℕ → List Seen → Step) → StopsAt P step → ((v u : ℕ) (rest : List Seen) → StopsAt P (next v u rest))
       → StopsAt P (andThen stopped step next)
   then-stops (stopped refusal) next h n = h
@@ -37,19 +38,19 @@ module _ (P : ℕ → Type 0) (wrong : P 11) (range : P 12) (end : ℕ) (missing
   one-stops : (kind : ℕ → Bool) (l : List Seen) → StopsAt P (oneOf kind end l)
   unfolding oneOf
   one-stops kind [] = missing
-  one-stops kind (seen ∷ rest) = cond-stops (kind (seen .byte)) (found (seen .byte) (seen .upto) rest) (stopped 11) tt wrong
+  one-stops kind (seen ∷ rest) = cond-stops (kind (seen .byte)) (found (seen .byte) (seen .upto) rest) (stopped wrongByte) tt wrong
 
   more-stops : (top value : ℕ) (l : List Seen) → StopsAt P (moreDigits end top value l)
   unfolding moreDigits judged
   more-stops top value [] = missing
   more-stops top value (seen ∷ rest) =
       cond-stops (white (seen .byte)) (judged top value (seen .upto) rest) _
-      (cond-stops (outside 1 top value) (stopped 12) (found value (seen .upto) rest) range tt)
-      (cond-stops (digit (seen .byte)) (moreDigits end top (10 * value + (seen .byte - 48)) rest) (stopped 11)
+      (cond-stops (outside 1 top value) (stopped numberOutOfRange) (found value (seen .upto) rest) range tt)
+      (cond-stops (digit (seen .byte)) (moreDigits end top (10 * value + (seen .byte - 48)) rest) (stopped wrongByte)
       (more-stops top (10 * value + (seen .byte - 48)) rest) wrong)
 
-  pub number-stops : (top : ℕ) (l : List Seen) → StopsAt P (number end top l)
-  unfolding number
+  pub number-stops : (top : ℕ) (l : List Seen) → StopsAt P (numberField end top l)
+  unfolding numberField
   number-stops top l =
       then-stops (oneOf digit end (afterWhite l)) (λ byte used rest. moreDigits end top (byte - 48) rest)
       (one-stops digit (afterWhite l)) (λ v u rest. more-stops top (v - 48) rest)
@@ -64,7 +65,7 @@ module _ (P : ℕ → Type 0) (wrong : P 11) (range : P 12) (end : ℕ) (missing
 abbrev Real : ℕ → Type 0
 Real refusal = refusal ≡ 0 → ⊥
 
-pub number-refuses : (end : ℕ) → Real end → (top : ℕ) (l : List Seen) → StopsAt Real (number end top l)
+pub number-refuses : (end : ℕ) → Real end → (top : ℕ) (l : List Seen) → StopsAt Real (numberField end top l)
 number-refuses end real top l = number-stops Real (λ e. omega arith) (λ e. omega arith) end real top l
 
 pub magic-refuses : (end : ℕ) → Real end → (kind : ℕ) (l : List Seen) → StopsAt Real (magic end kind l)
@@ -84,14 +85,14 @@ found-in (stopped refusal) next h e = absurd (h e)
 found-in (found v u rest) next h e = record { value = v; used = u; rest = rest; step-is = refl; goes-on = refl }
 
 -- a whole reading is refused at one of the numbers that P holds of, where P holds of what its steps and its raster can give
-whole-stops : (P : ℕ → Type 0) → P 11 → P 12 → P 13 → P 15 → P 0 → (s : List ℕ) → P (endOf s)
-    → ((start size : ℕ) → start + size ≤ limit → length s < start + size → P 14) → P (numbersOf s .refusal)
+whole-stops : (P : ℕ → Type 0) → P wrongByte → P numberOutOfRange → P imageTooLarge → P pixelTooLarge → P 0 → (s : List ℕ) → P (endOf s)
+    → ((start size : ℕ) → start + size ≤ limit → length s < start + size → P endsTooEarly) → P (numbersOf s .refusal)
 unfolding numbersOf
 whole-stops P wrong range over dim none s missing short =
     after (magic (endOf s) 53 (ahead s 0)) _ (magic-stops P wrong range (endOf s) missing 53 (ahead s 0)) λ _ _ l₁.
-    after (number (endOf s) 1024 l₁) _ (number-stops P wrong range (endOf s) missing 1024 l₁) λ width _ l₂.
-    after (number (endOf s) 1024 l₂) _ (number-stops P wrong range (endOf s) missing 1024 l₂) λ height _ l₃.
-    after (number (endOf s) 255 l₃) _ (number-stops P wrong range (endOf s) missing 255 l₃) λ maxval start _.
+    after (numberField (endOf s) 1024 l₁) _ (number-stops P wrong range (endOf s) missing 1024 l₁) λ width _ l₂.
+    after (numberField (endOf s) 1024 l₂) _ (number-stops P wrong range (endOf s) missing 1024 l₂) λ height _ l₃.
+    after (numberField (endOf s) 255 l₃) _ (number-stops P wrong range (endOf s) missing 255 l₃) λ maxval start _.
     raster-cases (λ n. P (n .refusal)) s width height maxval start (short start (rasterBytes pixelBytes width height)) over dim (λ _ _. none)
   where
     after : (step : Step) (next : ℕ → ℕ → List Seen → Numbers) → StopsAt P step → ((v u : ℕ) (rest : List Seen) → P (next v u rest .refusal))
@@ -100,22 +101,22 @@ whole-stops P wrong range over dim none s missing short =
     after (found v u rest) next h n = n v u rest
 
 -- every refusal of an image is 11 to 15
-pub refusal-range : (s : List ℕ) → (numbersOf s .refusal ≡ 0 → ⊥) → (11 ≤ numbersOf s .refusal) × (numbersOf s .refusal ≤ 15)
+pub refusal-range : (s : List ℕ) → (numbersOf s .refusal ≡ 0 → ⊥) → (wrongByte ≤ numbersOf s .refusal) × (numbersOf s .refusal ≤ pixelTooLarge)
 unfolding endOf
 refusal-range s =
-    whole-stops (λ k. (k ≡ 0 → ⊥) → (11 ≤ k) × (k ≤ 15)) (λ _. omega arith) (λ _. omega arith) (λ _. omega arith) (λ _. omega arith)
+    whole-stops (λ k. (k ≡ 0 → ⊥) → (wrongByte ≤ k) × (k ≤ pixelTooLarge)) (λ _. omega arith) (λ _. omega arith) (λ _. omega arith) (λ _. omega arith)
     (λ ne. absurd (ne refl)) s (ends (leb limit (length s))) (λ _ _ _ _ _. omega arith)
   where
-    ends : (b : Bool) → (_≡_ {A = ℕ} (cond b 13 14) 0 → ⊥) → (11 ≤ cond b 13 14) × (cond b 13 14 ≤ 15)
+    ends : (b : Bool) → (_≡_ {A = ℕ} (cond b imageTooLarge endsTooEarly) 0 → ⊥) → (wrongByte ≤ cond b imageTooLarge endsTooEarly) × (cond b imageTooLarge endsTooEarly ≤ pixelTooLarge)
     ends true _ = omega arith
     ends false _ = omega arith
 
 -- who is told 14 has fewer bytes than the limit: with 24,576 of them every image is decided
-pub waits-short : (s : List ℕ) → numbersOf s .refusal ≡ 14 → length s < limit
+pub waits-short : (s : List ℕ) → numbersOf s .refusal ≡ endsTooEarly → length s < limit
 waits-short s =
-    whole-stops (λ k. k ≡ 14 → length s < limit) (λ e. absurd (omega arith)) (λ e. absurd (omega arith)) (λ e. absurd (omega arith)) (λ e. absurd (omega arith))
+    whole-stops (λ k. k ≡ endsTooEarly → length s < limit) (λ e. absurd (omega arith)) (λ e. absurd (omega arith)) (λ e. absurd (omega arith)) (λ e. absurd (omega arith))
     (λ e. absurd (omega arith)) s (ends (leb limit (length s)) refl) (λ start size h k _. omega arith)
   where
-    ends : (b : Bool) → leb limit (length s) ≡ b → endOf s ≡ 14 → length s < limit
+    ends : (b : Bool) → leb limit (length s) ≡ b → endOf s ≡ endsTooEarly → length s < limit
     ends true h e = let z = end-over s (leb-true limit (length s) h) in absurd (omega arith)
     ends false h e = leb-false limit (length s) h

@@ -14,7 +14,7 @@ use Rattle.image.specs.Fields.{white, digit}
 use Rattle.image.specs.Pixels.{pixelBytes, rasterBytes, pixelAt}
 use Rattle.image.specs.Reading.{numbersOf}
 use Rattle.image.specs.Format.{AllOf, Some, valueOf, Numeral, HeaderBytes}
-use Rattle.image.specs.Text.{decimal, headerText}
+use Rattle.image.specs.Text.{decimalText, headerText}
 use Rattle.image.proofs.Exact.{pgm-is-accepted}
 
 digit-byte : (d : ℕ) → d < 10 → digit (48 + d) ≡ true
@@ -40,30 +40,30 @@ one-digit : (n : ℕ) → n < 10 → Digits n ((48 + n) ∷ [])
 unfolding valueOf
 one-digit n h = record { all = (digit-byte n h, tt); not-none = omega arith; writes = omega arith }
 
-digits-are : (places n : ℕ) → n < 10 ^ suc places → Digits n (decimal places n)
-unfolding decimal valueOf
+digits-are : (places n : ℕ) → n < 10 ^ suc places → Digits n (decimalText places n)
+unfolding decimalText valueOf
 digits-are zero n h = one-digit n h
 digits-are (suc places) n h = by (ltb n 10) refl (digits-are places (n / 10))
   where
     last-digit : (m : ℕ) → valueOf (m / 10) ((48 + m % 10) ∷ []) ≡ m
     last-digit m = omega arith
 
-    by : (b : Bool) → ltb n 10 ≡ b → (n / 10 < 10 ^ suc places → Digits (n / 10) (decimal places (n / 10)))
-        → Digits n (cond b ((48 + n) ∷ []) (decimal places (n / 10) ++ ((48 + n % 10) ∷ [])))
+    by : (b : Bool) → ltb n 10 ≡ b → (n / 10 < 10 ^ suc places → Digits (n / 10) (decimalText places (n / 10)))
+        → Digits n (cond b ((48 + n) ∷ []) (decimalText places (n / 10) ++ ((48 + n % 10) ∷ [])))
     by true e again = one-digit n (ltb-true n 10 e)
     by false e again =
         let bound : n < 10 ^ suc places * 10 = rw (pow-suc 10 (suc places)) at h in
         let d = again (div-lt-iff-lt-mul {k = 10} (omega arith) .1 bound) in
         record {
-          all = all-append digit (decimal places (n / 10)) ((48 + n % 10) ∷ []) (d .all) (digit-byte (n % 10) (omega arith), tt);
-          not-none = rw (length-append (decimal places (n / 10)) ((48 + n % 10) ∷ [])) (omega arith);
-          writes = value-append 0 (decimal places (n / 10)) ((48 + n % 10) ∷ [])
+          all = all-append digit (decimalText places (n / 10)) ((48 + n % 10) ∷ []) (d .all) (digit-byte (n % 10) (omega arith), tt);
+          not-none = rw (length-append (decimalText places (n / 10)) ((48 + n % 10) ∷ [])) (omega arith);
+          writes = value-append 0 (decimalText places (n / 10)) ((48 + n % 10) ∷ [])
               ∙ ap (λ (v : ℕ). valueOf v ((48 + n % 10) ∷ [])) (d .writes)
               ∙ last-digit n;
         }
 
 -- a number up to 9,999 in decimal is a numeral of the format
-decimal-numeral : (top n : ℕ) → 1 ≤ n → n ≤ top → top < 10000 → Numeral top n (decimal 3 n)
+decimal-numeral : (top n : ℕ) → 1 ≤ n → n ≤ top → top < 10000 → Numeral top n (decimalText 3 n)
 decimal-numeral top n low high small =
     let d = digits-are 3 n (omega arith) in
     record { digits = record { all = d .all; not-none = d .not-none }; writes = d .writes; low = low; high = high }
@@ -76,11 +76,11 @@ pub text-is-header : (width height maxval : ℕ) → 1 ≤ width → width ≤ 1
 unfolding headerText white
 text-is-header width height maxval w₁ w₂ h₁ h₂ m₁ m₂ = record {
   white₁ = 10 ∷ [];
-  digits₁ = decimal 3 width;
+  digits₁ = decimalText 3 width;
   white₂ = 32 ∷ [];
-  digits₂ = decimal 3 height;
+  digits₂ = decimalText 3 height;
   white₃ = 10 ∷ [];
-  digits₃ = decimal 3 maxval;
+  digits₃ = decimalText 3 maxval;
   last = 10;
   split = refl;
   some₁ = one-white 10 refl;

@@ -7,11 +7,12 @@ use mathlib.Core.Path.{_≡_, refl, sym, ap, _∙_}
 use native.Mathlib.Omega.{arith}
 use borrow.Author.Tests.{lt-ltb, le-ltb, leb-true, leb-false, ne-eqb}
 use lib.Dec.{leb, eqb}
+use Rattle.refusals.specs.Numbers.{wrongByte, numberOutOfRange}
 use Rattle.refusals.specs.First.{unlessRefused, outside}
 use Rattle.image.specs.declared.bytes.Took.{Took}
-use Rattle.image.specs.Seen.{Seen, ahead}
+use Rattle.image.specs.Seen.{Seen, ahead, endOf}
 use Rattle.image.specs.Step.{stopped, found, nextByte}
-use Rattle.image.specs.Fields.{white, digit, oneOf, afterWhite, judged, moreDigits, number}
+use Rattle.image.specs.Fields.{white, digit, oneOf, afterWhite, judged, moreDigits, numberField}
 use Rattle.image.specs.Told.{told, judgedTook}
 
 -- an answer without a refusal tells of a value found
@@ -28,9 +29,17 @@ pub told-stopped : (s : List ℕ) (took : Took) → (took .refusal ≡ 0 → ⊥
 unfolding told
 told-stopped s took ne = stays (took .refusal) (found (took .value) (took .used) (ahead s (took .used))) (stopped (took .refusal)) ne
 
+pub told-wrong : (s : List ℕ) → told s record { refusal = wrongByte; value = 0; used = 0 } ≡ stopped wrongByte
+unfolding told
+told-wrong s = refl
+
+-- the byte that was taken is the next one ahead
+abbrev pub Taken : List ℕ → List Seen → Took → Type 0
+Taken s l took = l ≡ record { byte = took .value; upto = took .used } ∷ ahead s (took .used)
+
 module _ (s : List ℕ) (end : ℕ) (l : List Seen) (took : Took) (e : told s took ≡ nextByte end l) where
   -- the next byte was there: it is the first of the bytes ahead
-  pub next-some : took .refusal ≡ 0 → l ≡ record { byte = took .value; upto = took .used } ∷ ahead s (took .used)
+  pub next-some : took .refusal ≡ 0 → Taken s l took
   next-some e0 = by l (sym e ∙ told-found s took e0)
     where
       by : (m : List Seen) → nextByte end m ≡ found (took .value) (took .used) (ahead s (took .used))
@@ -64,9 +73,21 @@ module _ (kind : ℕ → Bool) (end : ℕ) {l : List Seen} where
   unfolding oneOf
   one-found e k = rw (e, k)
 
-  pub one-wrong : {seen : Seen} {rest : List Seen} → l ≡ seen ∷ rest → kind (seen .byte) ≡ false → oneOf kind end l ≡ stopped 11
+  pub one-wrong : {seen : Seen} {rest : List Seen} → l ≡ seen ∷ rest → kind (seen .byte) ≡ false → oneOf kind end l ≡ stopped wrongByte
   unfolding oneOf
   one-wrong e k = rw (e, k)
+
+-- the same by the answer that took the byte
+module _ (kind : ℕ → Bool) (s : List ℕ) (at : ℕ) (took : Took) (e : told s took ≡ nextByte (endOf s) (ahead s at)) where
+  pub kind-none : (took .refusal ≡ 0 → ⊥) → oneOf kind (endOf s) (ahead s at) ≡ stopped (took .refusal)
+  kind-none ne = one-none kind (endOf s) (next-none s (endOf s) (ahead s at) took e ne) ∙ sym (next-ended s (endOf s) (ahead s at) took e ne) ∙ told-stopped s took ne
+
+  pub kind-found : took .refusal ≡ 0 → kind (took .value) ≡ true
+      → oneOf kind (endOf s) (ahead s at) ≡ found (took .value) (took .used) (ahead s (took .used))
+  kind-found z = one-found kind (endOf s) (next-some s (endOf s) (ahead s at) took e z)
+
+  pub kind-wrong : took .refusal ≡ 0 → kind (took .value) ≡ false → oneOf kind (endOf s) (ahead s at) ≡ stopped wrongByte
+  kind-wrong z = one-wrong kind (endOf s) (next-some s (endOf s) (ahead s at) took e z)
 
 -- white bytes passed over
 module _ {l : List Seen} where
@@ -99,24 +120,24 @@ module _ (end top value : ℕ) {l : List Seen} where
   digits-more e w d = rw (e, w, d)
 
   pub digits-wrong : {seen : Seen} {rest : List Seen} → l ≡ seen ∷ rest → white (seen .byte) ≡ false → digit (seen .byte) ≡ false
-      → moreDigits end top value l ≡ stopped 11
+      → moreDigits end top value l ≡ stopped wrongByte
   unfolding moreDigits
   digits-wrong e w d = rw (e, w, d)
 
 -- a whole number
 module _ (end top : ℕ) (l : List Seen) where
-  pub number-none : afterWhite l ≡ [] → number end top l ≡ stopped end
-  unfolding number
+  pub number-none : afterWhite l ≡ [] → numberField end top l ≡ stopped end
+  unfolding numberField
   number-none e = rw (one-none digit end e)
 
   pub number-digit : {seen : Seen} {rest : List Seen} → afterWhite l ≡ seen ∷ rest → digit (seen .byte) ≡ true
-      → number end top l ≡ moreDigits end top (seen .byte - 48) rest
-  unfolding number
+      → numberField end top l ≡ moreDigits end top (seen .byte - 48) rest
+  unfolding numberField
   number-digit e d = rw (one-found digit end e d)
 
   pub number-wrong : {seen : Seen} {rest : List Seen} → afterWhite l ≡ seen ∷ rest → digit (seen .byte) ≡ false
-      → number end top l ≡ stopped 11
-  unfolding number
+      → numberField end top l ≡ stopped wrongByte
+  unfolding numberField
   number-wrong e d = rw (one-wrong digit end e d)
 
 -- a byte that is none of the first three white bytes is white if it is the fourth
@@ -174,7 +195,7 @@ unfolding told judgedTook judged
 told-judged s top value used = by (outside 1 top value)
   where
     by : (b : Bool)
-        → told s (cond b record { refusal = 12; value = 0; used = 0 } record { refusal = 0; value = value; used = used })
-        ≡ cond b (stopped 12) (found value used (ahead s used))
+        → told s (cond b record { refusal = numberOutOfRange; value = 0; used = 0 } record { refusal = 0; value = value; used = used })
+        ≡ cond b (stopped numberOutOfRange) (found value used (ahead s used))
     by true = refl
     by false = refl

@@ -38,8 +38,8 @@ moreDigits end top value (seen ∷ rest) =
     (cond (digit (seen .byte)) (moreDigits end top (10 * value + (seen .byte - 48)) rest) (stopped wrongByte))
 
 -- a number of one or more digits with one white byte after it; white bytes before it are passed over
-unfoldable pub number : ℕ → ℕ → List Seen → Step
-number end top l =
+unfoldable pub numberField : ℕ → ℕ → List Seen → Step
+numberField end top l =
     andThen stopped (oneOf digit end (afterWhite l)) λ byte used rest. moreDigits end top (byte - 48) rest
 
 -- `P`, the byte that says what kind of image it is (`5`, which is 53, for a PGM), and one white byte

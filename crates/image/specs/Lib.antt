@@ -6,4 +6,5 @@ pub mod Reading
 pub mod Part
 pub mod Told
 pub mod Format
+pub mod Promised
 pub mod Text

@@ -12,13 +12,13 @@ abbrev pub rasterBytes : ℕ → ℕ → ℕ → ℕ
 rasterBytes per width height = width * height * per
 
 -- the number that a pixel's bytes write, the highest byte first
-unfoldable pub written : ℕ → List ℕ → ℕ
-written high [] = high
-written high (byte ∷ later) = written (high * 256 + byte) later
+unfoldable pub bytesValue : ℕ → List ℕ → ℕ
+bytesValue high [] = high
+bytesValue high (byte ∷ later) = bytesValue (high * 256 + byte) later
 
 -- the pixel at a position of a raster, counted from 0
 unfoldable pub pixelAt : ℕ → List ℕ → ℕ → ℕ
-pixelAt per raster position = written 0 (take per (drop (position * per) raster))
+pixelAt per raster position = bytesValue 0 (take per (drop (position * per) raster))
 
 -- the largest of the first `count` pixels
 unfoldable pub largest : (ℕ → ℕ) → ℕ → ℕ

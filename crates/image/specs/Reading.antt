@@ -4,11 +4,12 @@ use mathlib.Core.List.{List, [], _∷_}
 use lib.Dec.{ltb}
 use lib.ListN.{length, take, drop}
 use Rattle.refusals.specs.Numbers.{imageTooLarge, endsTooEarly, pixelTooLarge}
-use Rattle.refusals.specs.First.{Fault, _gives_, firstOf, unlessRefused}
+use Rattle.refusals.specs.First.{Fault, _gives_, passedOn, firstOf, unlessRefused}
+use Rattle.refusals.specs.Call.{Call}
 use Rattle.image.specs.declared.Numbers.{Numbers}
 use Rattle.image.specs.Seen.{limit, ahead, endOf}
 use Rattle.image.specs.Step.{andThen}
-use Rattle.image.specs.Fields.{magic, number}
+use Rattle.image.specs.Fields.{magic, numberField}
 use Rattle.image.specs.Pixels.{pixelBytes, rasterBytes, pixelAt, largest}
 
 -- the answer of a refused reading
@@ -38,11 +39,16 @@ unfoldable pub numbersOf : List ℕ → Numbers
 numbersOf s =
     let end = endOf s in
     andThen refusedWith (magic end 53 (ahead s 0)) λ sign used rest.
-    andThen refusedWith (number end 1024 rest) λ width used rest.
-    andThen refusedWith (number end 1024 rest) λ height used rest.
-    andThen refusedWith (number end 255 rest) λ maxval start rest.
+    andThen refusedWith (numberField end 1024 rest) λ width used rest.
+    andThen refusedWith (numberField end 1024 rest) λ height used rest.
+    andThen refusedWith (numberField end 255 rest) λ maxval start rest.
     withRaster pixelBytes s width height maxval start
 
 -- the bytes of the raster: those from the header's end up to the bytes used
 abbrev pub rasterIn : List ℕ → List ℕ
 rasterIn s = let numbers = numbersOf s in take (numbers .used - numbers .start) (drop (numbers .start) s)
+
+-- the call that gives the numbers: its one fault is the reading's own, and the bytes are lent only to be read
+unfoldable pub headerCall : List ℕ → Call Numbers (List ℕ)
+headerCall s =
+    record { faults = passedOn (numbersOf s .refusal) ∷ []; given = numbersOf s; left = s; back = refusedWith; lent = s }

@@ -5,11 +5,11 @@ use mathlib.Core.List.{List, [], _∷_, _++_}
 use lib.Dec.{ltb}
 
 -- the decimal digits of a number below 10^(places + 1), the highest first
-unfoldable pub decimal : ℕ → ℕ → List ℕ
-decimal zero n = (48 + n) ∷ []
-decimal (suc places) n = cond (ltb n 10) ((48 + n) ∷ []) (decimal places (n / 10) ++ ((48 + n % 10) ∷ []))
+unfoldable pub decimalText : ℕ → ℕ → List ℕ
+decimalText zero n = (48 + n) ∷ []
+decimalText (suc places) n = cond (ltb n 10) ((48 + n) ∷ []) (decimalText places (n / 10) ++ ((48 + n % 10) ∷ []))
 
 -- `P5`, LF, width, space, height, LF, maxval, LF
 unfoldable pub headerText : ℕ → ℕ → ℕ → List ℕ
 headerText width height maxval =
-    80 ∷ 53 ∷ ((10 ∷ []) ++ (decimal 3 width ++ ((32 ∷ []) ++ (decimal 3 height ++ ((10 ∷ []) ++ (decimal 3 maxval ++ (10 ∷ [])))))))
+    80 ∷ 53 ∷ ((10 ∷ []) ++ (decimalText 3 width ++ ((32 ∷ []) ++ (decimalText 3 height ++ ((10 ∷ []) ++ (decimalText 3 maxval ++ (10 ∷ [])))))))

@@ -4,7 +4,7 @@ ghost use mathlib.Core.Bool.{true};
 ghost use Prim.Native.Nat.{_+_, _*_, _-_, _≤_, _<_, min};
 ghost use Rattle.image.specs.Seen.{ahead, endOf};
 ghost use Rattle.image.specs.Told.{told, judgedTook};
-ghost use Rattle.image.specs.Fields.{white, digit, afterWhite, moreDigits, number, magic};
+ghost use Rattle.image.specs.Fields.{white, digit, afterWhite, moreDigits, numberField, magic};
 use crate::bytes;
 use crate::bytes::Took;
 use refusals::NUMBER_OUT_OF_RANGE;
@@ -106,7 +106,7 @@ fn more_digits(s: &[u8], used: usize, first: usize, top: usize) -> Took
 // A number from 1 to `top`, with the white bytes before it and one white byte after it.
 pub(crate) fn number(s: &[u8], used: usize, top: usize) -> Took
     requires { ⌜ top < 65536 ⌝ }
-    ensures { λ r. ⌜ told (now (s .entry)) r ≡ number (endOf (now (s .entry))) top (ahead (now (s .entry)) used) ⌝ }
+    ensures { λ r. ⌜ told (now (s .entry)) r ≡ numberField (endOf (now (s .entry))) top (ahead (now (s .entry)) used) ⌝ }
 {
     let first = bytes::next(s, skip_white(s, used));
     if first.refusal != 0 {

@@ -7,7 +7,6 @@ use mathlib.Core.List.{List, [], _∷_, _++_}
 use mathlib.Core.Path.{_≡_, refl, sym, ap, _∙_}
 use borrow.Author.Tests.{le-ltb, ltb-false, eqb-false}
 use lib.Dec.{T, ltb, eqb}
-use Rattle.refusals.specs.Settled.{Settles}
 use Rattle.refusals.specs.First.{Fault, _gives_, orElse, firstOf, unlessRefused, outside}
 
 orElse-assoc : (a b c : ℕ) → orElse (orElse a b) c ≡ orElse a (orElse b c)
@@ -71,54 +70,6 @@ refused-keeps (suc m) new old e ne = refl
 -- and without one the new thing is there
 pub taken-gives : {A : Type 0} {n : ℕ} (m : ℕ) (new old : A) → n ≡ m → n ≡ 0 → unlessRefused m new old ≡ new
 taken-gives {A} {n} m new old e e0 = rw (sym e ∙ e0)
-
--- a statement that gives what is seen as a function of the arguments settles it
-pub settled : {Args Result Exit Seen : Type 0} (Post : Args → Result → Exit → Type 0) (seen : Result → Exit → Seen) (f : Args → Seen)
-    → ((a : Args) (r : Result) (e : Exit) → Post a r e → seen r e ≡ f a) → Settles Post seen
-unfolding Settles
-settled Post seen f told a r r′ e e′ p p′ = told a r e p ∙ sym (told a r′ e′ p′)
-
--- no fault of the list holds
-abbrev pub NoneHolds : List Fault → Type 0
-NoneHolds [] = Unit {0}
-NoneHolds ((holds gives number) ∷ later) = (holds ≡ false) × NoneHolds later
-
--- no fault of the list has the number 0, which means that nothing is refused
-abbrev pub Numbered : List Fault → Type 0
-Numbered [] = Unit {0}
-Numbered ((holds gives number) ∷ later) = (0 < number) × Numbered later
-
--- the refusal is 0 exactly when no fault holds
-pub none-refuses : (faults : List Fault) → NoneHolds faults → firstOf faults ≡ 0
-none-refuses [] h = refl
-none-refuses ((holds gives number) ∷ later) h = rw (h .0) (none-refuses later (h .1))
-
-pub nothing-holds : (faults : List Fault) → Numbered faults → firstOf faults ≡ 0 → NoneHolds faults
-nothing-holds [] n e = tt
-nothing-holds ((true gives zero) ∷ later) n e = absurd (omega arith)
-nothing-holds ((true gives suc number) ∷ later) n e = absurd (omega arith)
-nothing-holds ((false gives number) ∷ later) n e = (refl, nothing-holds later (n .1) e)
-
--- and any other refusal is the number of a fault that holds, while none before it does
-pub record FirstThatHolds (faults : List Fault) (refusal : ℕ) : Type 0 where
-  pub earlier : List Fault
-  pub later : List Fault
-  pub split : faults ≡ earlier ++ (true gives refusal) ∷ later
-  pub none-earlier : NoneHolds earlier
-
-pub first-holds : (faults : List Fault) (refusal : ℕ) → Numbered faults → firstOf faults ≡ suc refusal → FirstThatHolds faults (suc refusal)
-first-holds [] refusal n e = absurd (omega arith)
-first-holds ((true gives zero) ∷ later) refusal n e = absurd (omega arith)
-first-holds ((true gives suc number) ∷ later) refusal n e =
-    record { earlier = []; later = later; split = ap (λ (k : ℕ). (true gives k) ∷ later) e; none-earlier = tt }
-first-holds ((false gives number) ∷ later) refusal n e =
-    let r = first-holds later refusal (n .1) e in
-    record {
-      earlier = (false gives number) ∷ r .earlier;
-      later = r .later;
-      split = ap (λ (l : List Fault). (false gives number) ∷ l) (r .split);
-      none-earlier = (refl, r .none-earlier);
-    }
 
 -- no fault of the list has the number k: a test that computes, since the numbers are written out
 abbrev pub avoids : ℕ → List Fault → Bool

@@ -9,6 +9,15 @@ infix 10 _gives_
 pub data Fault : Type 0 where
   _gives_ : Bool → ℕ → Fault
 
+-- a number that is a refusal: any but 0
+abbrev pub isRefusal : ℕ → Bool
+isRefusal zero = false
+isRefusal (suc number) = true
+
+-- the refusal of another call, passed on under its own number
+abbrev pub passedOn : ℕ → Fault
+passedOn number = isRefusal number gives number
+
 -- a refusal number, or where it is 0, the other one
 abbrev pub orElse : ℕ → ℕ → ℕ
 orElse zero other = other

@@ -1,3 +1,4 @@
 pub mod Numbers
 pub mod First
-pub mod Settled
+pub mod Call
+pub mod Demand1

@@ -5,7 +5,7 @@ use native.Mathlib.Nat.{suc-mul, add-zero, add-suc, add-assoc}
 use native.Mathlib.Omega.{arith}
 use mathlib.Core.Logic.{_⊎_, inl, inr}
 use mathlib.Core.Path.{_≡_, refl, sym, ap, ap₂, _∙_}
-use Rattle.ring.proofs.Parts.{le-or-lt}
+use Rattle.bits.proofs.Promises.{le-or-lt}
 use Rattle.ring.specs.Newest.{slotBefore, newest, sumNewest}
 
 -- the slot before 0 is the last one

@@ -1,51 +1,36 @@
--- Demand 1 for every call of the ring, each law stated once over all calls.
+-- Demand 1 and uniqueness of each public call: what its statement says is what its row says.
+-- `Post` is the statement itself, as it stands at the function in src/lib.rt; a ring that is only read is left as it came.
 -- Assumes nothing.
-use Prim.Native.Nat.{ℕ, suc, _<_}
-use mathlib.Core.List.{List, [], _∷_}
+use Prim.Native.Nat.{ℕ}
 use mathlib.Core.Path.{_≡_, refl}
-use native.Mathlib.Omega.{arith}
-use lib.Dec.{lit<}
-use lib.ListN.{length}
-use Rattle.refusals.specs.First.{firstOf}
-use Rattle.refusals.proofs.Laws.{refused-keeps, Numbered, FirstThatHolds, first-holds, NoneHolds, nothing-holds, none-refuses}
-use Rattle.ring.specs.Slot.{cleared, field, written}
-use Rattle.ring.specs.Newest.{sumNewest}
-use Rattle.ring.specs.Calls.{clearRefusal, readRefusal, writeRefusal, sumRefusal, clearBytes, readAnswer, writeBytes, sumAnswer, answer}
-use Rattle.ring.specs.Every.{Call, clear, read, write, sum, faultsOf, outcome}
+use contract.Lifetimes.{Lfts}
+use denote.Ref.{now}
+use Rattle.refusals.specs.Demand1.{Promised}
+use Rattle.refusals.proofs.Calls.{asks-leaves, promised, tells}
+use Rattle.ring.specs.declared.Answer.{Answer}
+use Rattle.ring.specs.Calls.{clearCall, readCall, writeCall, sumCall}
+use Rattle.ring.proofs.clear.Reads as clear-reads
+use Rattle.ring.proofs.read.Reads as read-reads
+use Rattle.ring.proofs.write.Reads as write-reads
+use Rattle.ring.proofs.sum.Reads as sum-reads
 
--- ledger 1.2: the refusal is the first fault that holds …
-pub refusal-is : (call : Call) (ring : List ℕ) → outcome call ring .refusal ≡ firstOf (faultsOf call ring)
-unfolding clearRefusal readRefusal writeRefusal sumRefusal readAnswer sumAnswer answer
-refusal-is (clear width slots) ring = refl
-refusal-is (read width slots slot) ring = refl
-refusal-is (write width slots slot value) ring = refl
-refusal-is (sum width slots next j) ring = refl
+-- In `a` stand the width, the slots, the ring and what the call asks, in `e` the same as the call returns.
+module _ (κs : Lfts 1) where
+  pub clear-promised : Promised (clear-reads.Post κs) (λ r. r) (λ a e. now (e .1 .1 .0)) (λ a. clearCall (a .0) (a .1 .0) (now (a .1 .1 .0))) (λ (n : ℕ). n)
+  unfolding clearCall
+  clear-promised = promised _ _ _ _ (λ a r e p. p) _ (λ a. tells tt refl (λ number. refl))
 
-numbered : (call : Call) (ring : List ℕ) → Numbered (faultsOf call ring)
-numbered (clear width slots) ring = (lit< tt, (lit< tt, (lit< tt, tt)))
-numbered (read width slots slot) ring = (lit< tt, (lit< tt, (lit< tt, (lit< tt, tt))))
-numbered (write width slots slot value) ring = (lit< tt, (lit< tt, (lit< tt, (lit< tt, (lit< tt, tt)))))
-numbered (sum width slots next j) ring = (lit< tt, (lit< tt, (lit< tt, (lit< tt, (lit< tt, tt)))))
+  pub read-promised : Promised (read-reads.Post κs) (λ r. r) (λ a e. now (a .1 .1 .0))
+      (λ a. readCall (a .0) (a .1 .0) (now (a .1 .1 .0)) (a .1 .1 .1 .0)) (λ (r : Answer). r .refusal)
+  unfolding readCall
+  read-promised = promised _ _ _ _ (λ a r e p. (p, asks-leaves _ refl)) _ (λ a. tells tt refl (λ number. refl))
 
-pub refusal-first : (call : Call) (ring : List ℕ) (n : ℕ) → outcome call ring .refusal ≡ suc n → FirstThatHolds (faultsOf call ring) (suc n)
-refusal-first call ring n e = first-holds (faultsOf call ring) n (numbered call ring) (rw (refusal-is call ring) at e)
+  pub write-promised : Promised (write-reads.Post κs) (λ r. r) (λ a e. now (e .1 .1 .0))
+      (λ a. writeCall (a .0) (a .1 .0) (now (a .1 .1 .0)) (a .1 .1 .1 .0) (a .1 .1 .1 .1 .0)) (λ (n : ℕ). n)
+  unfolding writeCall
+  write-promised = promised _ _ _ _ (λ a r e p. p) _ (λ a. tells tt refl (λ number. refl))
 
--- … and 0 exactly when none holds
-pub taken-none : (call : Call) (ring : List ℕ) → outcome call ring .refusal ≡ 0 → NoneHolds (faultsOf call ring)
-taken-none call ring e = nothing-holds (faultsOf call ring) (numbered call ring) (rw (refusal-is call ring) at e)
-
-pub none-taken : (call : Call) (ring : List ℕ) → NoneHolds (faultsOf call ring) → outcome call ring .refusal ≡ 0
-none-taken call ring h = rw (refusal-is call ring) (none-refuses (faultsOf call ring) h)
-
--- ledger 1.3: a refusal gives 0 and leaves every byte as it was
-pub refused-changes-nothing : (call : Call) (ring : List ℕ) → (outcome call ring .refusal ≡ 0 → ⊥)
-    → (outcome call ring .value ≡ 0) × (outcome call ring .bytes ≡ ring)
-unfolding clearBytes writeBytes readAnswer sumAnswer answer
-refused-changes-nothing (clear width slots) ring ne =
-    (refl, refused-keeps (clearRefusal width slots (length ring)) (cleared width slots ring) ring refl ne)
-refused-changes-nothing (read width slots slot) ring ne =
-    (refused-keeps (readRefusal width slots (length ring) slot) (field width ring slot) 0 refl ne, refl)
-refused-changes-nothing (write width slots slot value) ring ne =
-    (refl, refused-keeps (writeRefusal width slots (length ring) slot value) (written width ring slot value) ring refl ne)
-refused-changes-nothing (sum width slots next j) ring ne =
-    (refused-keeps (sumRefusal width slots (length ring) next j) (sumNewest (field width ring) slots next j) 0 refl ne, refl)
+  pub sum-promised : Promised (sum-reads.Post κs) (λ r. r) (λ a e. now (a .1 .1 .0))
+      (λ a. sumCall (a .0) (a .1 .0) (now (a .1 .1 .0)) (a .1 .1 .1 .0) (a .1 .1 .1 .1 .0)) (λ (r : Answer). r .refusal)
+  unfolding sumCall
+  sum-promised = promised _ _ _ _ (λ a r e p. (p, asks-leaves _ refl)) _ (λ a. tells tt refl (λ number. refl))

@@ -1,10 +1,5 @@
-pub mod Digits
-pub mod Rows
-pub mod Parts
-pub mod Words
 pub mod Fields
 pub mod Around
 pub mod Refused
-pub mod Unique
 pub mod Demand1
 pub mod Promises

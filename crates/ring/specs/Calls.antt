@@ -1,20 +1,21 @@
 -- What each call of the ring answers and leaves, for every input. Refusals: 10 before 4, as paper 01 orders them.
 use Prim.Native.Nat.{ℕ, _^_}
-use mathlib.Core.Bool.{Bool}
 use mathlib.Core.List.{List, [], _∷_, _++_}
 use lib.Dec.{ltb, leb}
 use lib.ListN.{length}
 use Rattle.refusals.specs.Numbers.{ringTooShort, badRingCall}
-use Rattle.refusals.specs.First.{Fault, _gives_, firstOf, unlessRefused, outside}
+use Rattle.refusals.specs.First.{Fault, _gives_, outside}
+use Rattle.refusals.specs.Call.{Call}
 use Rattle.ring.specs.declared.Answer.{Answer}
+use Rattle.ring.specs.Limits.{widest, mostSlots}
 use Rattle.ring.specs.Slot.{ringBytes, field, written, cleared}
 use Rattle.ring.specs.Newest.{sumNewest}
 
 -- 10: the width is not 1 to 16, or the slots are not 1 to 4,096
 abbrev pub shapeFaults : ℕ → ℕ → List Fault
 shapeFaults width slots =
-    (outside 1 16 width gives badRingCall)
-    ∷ (outside 1 4096 slots gives badRingCall)
+    (outside 1 widest width gives badRingCall)
+    ∷ (outside 1 mostSlots slots gives badRingCall)
     ∷ []
 
 -- 4: fewer bytes are lent than the ring takes
@@ -33,53 +34,46 @@ valueFault width value = leb (2 ^ width) value gives badRingCall
 abbrev pub newestFault : ℕ → ℕ → Fault
 newestFault slots j = ltb slots j gives badRingCall
 
--- each call's faults in order: the shape, then the call's own numbers, then the room
-abbrev pub clearFaults : ℕ → ℕ → ℕ → List Fault
-clearFaults width slots lent = shapeFaults width slots ++ roomFaults width slots lent
+-- CLEAR: sets the first B bytes of the ring to 0
+unfoldable pub clearCall : (width slots : ℕ) (ring : List ℕ) → Call ℕ (List ℕ)
+clearCall width slots ring =
+    record {
+      faults = shapeFaults width slots ++ roomFaults width slots (length ring);
+      given = 0;
+      left = cleared width slots ring;
+      back = λ number. number;
+      lent = ring;
+    }
 
-abbrev pub readFaults : ℕ → ℕ → ℕ → ℕ → List Fault
-readFaults width slots lent slot = shapeFaults width slots ++ slotFault slots slot ∷ roomFaults width slots lent
+-- READ A SLOT: the number in it
+unfoldable pub readCall : (width slots : ℕ) (ring : List ℕ) (slot : ℕ) → Call Answer (List ℕ)
+readCall width slots ring slot =
+    record {
+      faults = shapeFaults width slots ++ slotFault slots slot ∷ roomFaults width slots (length ring);
+      given = record { refusal = 0; value = field width ring slot };
+      left = ring;
+      back = λ number. record { refusal = number; value = 0 };
+      lent = ring;
+    }
 
-abbrev pub writeFaults : ℕ → ℕ → ℕ → ℕ → ℕ → List Fault
-writeFaults width slots lent slot value =
-    shapeFaults width slots ++ slotFault slots slot ∷ valueFault width value ∷ roomFaults width slots lent
+-- WRITE A SLOT: puts a value into it, and leaves every other bit
+unfoldable pub writeCall : (width slots : ℕ) (ring : List ℕ) (slot value : ℕ) → Call ℕ (List ℕ)
+writeCall width slots ring slot value =
+    record {
+      faults = shapeFaults width slots ++ slotFault slots slot ∷ valueFault width value ∷ roomFaults width slots (length ring);
+      given = 0;
+      left = written width ring slot value;
+      back = λ number. number;
+      lent = ring;
+    }
 
-abbrev pub sumFaults : ℕ → ℕ → ℕ → ℕ → ℕ → List Fault
-sumFaults width slots lent next j =
-    shapeFaults width slots ++ slotFault slots next ∷ newestFault slots j ∷ roomFaults width slots lent
-
--- each call's refusal: the first of its faults that holds
-unfoldable pub clearRefusal : ℕ → ℕ → ℕ → ℕ
-clearRefusal width slots lent = firstOf (clearFaults width slots lent)
-
-unfoldable pub readRefusal : ℕ → ℕ → ℕ → ℕ → ℕ
-readRefusal width slots lent slot = firstOf (readFaults width slots lent slot)
-
-unfoldable pub writeRefusal : ℕ → ℕ → ℕ → ℕ → ℕ → ℕ
-writeRefusal width slots lent slot value = firstOf (writeFaults width slots lent slot value)
-
-unfoldable pub sumRefusal : ℕ → ℕ → ℕ → ℕ → ℕ → ℕ
-sumRefusal width slots lent next j = firstOf (sumFaults width slots lent next j)
-
--- an answer that is a number: the refusal, with the value where there is none and 0 where there is one
-unfoldable pub answer : ℕ → ℕ → Answer
-answer refusal value = record { refusal = refusal; value = unlessRefused refusal value 0 }
-
--- the ring after clear
-unfoldable pub clearBytes : ℕ → ℕ → List ℕ → List ℕ
-clearBytes width slots ring =
-    unlessRefused (clearRefusal width slots (length ring)) (cleared width slots ring) ring
-
--- the answer of read
-unfoldable pub readAnswer : ℕ → ℕ → List ℕ → ℕ → Answer
-readAnswer width slots ring slot = answer (readRefusal width slots (length ring) slot) (field width ring slot)
-
--- the ring after write
-unfoldable pub writeBytes : ℕ → ℕ → List ℕ → ℕ → ℕ → List ℕ
-writeBytes width slots ring slot value =
-    unlessRefused (writeRefusal width slots (length ring) slot value) (written width ring slot value) ring
-
--- the answer of sum
-unfoldable pub sumAnswer : ℕ → ℕ → List ℕ → ℕ → ℕ → Answer
-sumAnswer width slots ring next j =
-    answer (sumRefusal width slots (length ring) next j) (sumNewest (field width ring) slots next j)
+-- SUM THE j NEWEST SLOTS before a given next slot; the slot before 0 is the last one
+unfoldable pub sumCall : (width slots : ℕ) (ring : List ℕ) (next j : ℕ) → Call Answer (List ℕ)
+sumCall width slots ring next j =
+    record {
+      faults = shapeFaults width slots ++ slotFault slots next ∷ newestFault slots j ∷ roomFaults width slots (length ring);
+      given = record { refusal = 0; value = sumNewest (field width ring) slots next j };
+      left = ring;
+      back = λ number. record { refusal = number; value = 0 };
+      lent = ring;
+    }

@@ -1,5 +1,5 @@
-pub mod Row
+pub mod Limits
 pub mod Slot
 pub mod Newest
+pub mod Lent
 pub mod Calls
-pub mod Every

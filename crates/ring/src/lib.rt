@@ -1,8 +1,8 @@
 // A ring of packed small numbers in bytes that the caller lends: clear, read a slot, write a slot, sum the newest slots.
-// Every call with every slice and every number answers; what it answers and leaves is defined in specs/Calls.antt.
+// Every call with every slice and every number answers; what it answers and leaves is its row in specs/Calls.antt.
 ghost use mathlib.Core.Path.{_≡_};
-ghost use lib.ListN.{length};
-ghost use Rattle.ring.specs.Calls.{clearRefusal, clearBytes, readAnswer, writeRefusal, writeBytes, sumAnswer};
+ghost use Rattle.refusals.specs.Call.{resultOf, leftOf};
+ghost use Rattle.ring.specs.Calls.{clearCall, readCall, writeCall, sumCall};
 
 mod judge;
 mod slot;
@@ -17,9 +17,10 @@ pub struct Answer {
 
 // Sets the first bytes of the ring, as many as it takes, to 0. Gives the refusal number, 0 for none.
 pub fn clear(width: usize, slots: usize, ring: &mut [u8]) -> u8
-    ensures { λ r. ⌜ (r ≡ clearRefusal width slots (length (now (ring .entry)))) × (now (ring .exit) ≡ clearBytes width slots (now (ring .entry))) ⌝ }
+    ensures { λ r. ⌜ (r ≡ resultOf (clearCall width slots (now (ring .entry)))) × (now (ring .exit) ≡ leftOf (clearCall width slots (now (ring .entry)))) ⌝ }
 {
-    let refusal = judge::clear(width, slots, ring.len());
+    // Slot 0 is in every ring, so that this asks for the ring alone.
+    let refusal = judge::call(width, slots, ring.len(), 0, false);
     if refusal != 0 {
         return refusal;
     }
@@ -29,9 +30,9 @@ pub fn clear(width: usize, slots: usize, ring: &mut [u8]) -> u8
 
 // The number in a slot.
 pub fn read(width: usize, slots: usize, ring: &[u8], slot: usize) -> Answer
-    ensures { λ r. ⌜ r ≡ readAnswer width slots (now (ring .entry)) slot ⌝ }
+    ensures { λ r. ⌜ r ≡ resultOf (readCall width slots (now (ring .entry)) slot) ⌝ }
 {
-    let refusal = judge::read(width, slots, ring.len(), slot);
+    let refusal = judge::call(width, slots, ring.len(), slot, false);
     if refusal != 0 {
         return Answer { refusal, value: 0 };
     }
@@ -43,9 +44,15 @@ pub fn read(width: usize, slots: usize, ring: &[u8], slot: usize) -> Answer
 
 // Puts a value into a slot. Gives the refusal number, 0 for none.
 pub fn write(width: usize, slots: usize, ring: &mut [u8], slot: usize, value: u64) -> u8
-    ensures { λ r. ⌜ (r ≡ writeRefusal width slots (length (now (ring .entry))) slot value) × (now (ring .exit) ≡ writeBytes width slots (now (ring .entry)) slot value) ⌝ }
+    ensures { λ r. ⌜ (r ≡ resultOf (writeCall width slots (now (ring .entry)) slot value)) × (now (ring .exit) ≡ leftOf (writeCall width slots (now (ring .entry)) slot value)) ⌝ }
 {
-    let refusal = judge::write(width, slots, ring.len(), slot, value);
+    let refusal = judge::call(
+        width,
+        slots,
+        ring.len(),
+        slot,
+        judge::too_large(width, value),
+    );
     if refusal != 0 {
         return refusal;
     }
@@ -55,9 +62,9 @@ pub fn write(width: usize, slots: usize, ring: &mut [u8], slot: usize, value: u6
 
 // The sum of the j newest slots before the slot `next`; the slot before 0 is the last one.
 pub fn sum(width: usize, slots: usize, ring: &[u8], next: usize, j: usize) -> Answer
-    ensures { λ r. ⌜ r ≡ sumAnswer width slots (now (ring .entry)) next j ⌝ }
+    ensures { λ r. ⌜ r ≡ resultOf (sumCall width slots (now (ring .entry)) next j) ⌝ }
 {
-    let refusal = judge::sum(width, slots, ring.len(), next, j);
+    let refusal = judge::call(width, slots, ring.len(), next, slots < j);
     if refusal != 0 {
         return Answer { refusal, value: 0 };
     }

@@ -3,6 +3,7 @@ ghost use mathlib.Core.Path.{_≡_};
 ghost use mathlib.Core.List.{_++_};
 ghost use Prim.Native.Nat.{_+_, _≤_, _<_, _*_, _/_, _%_, _^_};
 ghost use lib.ListN.{length, drop, replicate};
+ghost use Rattle.ring.specs.Limits.{widest, mostSlots};
 ghost use Rattle.ring.specs.Slot.{field, written};
 ghost use Rattle.ring.specs.Newest.{sumNewest};
 use crate::word;
@@ -15,7 +16,7 @@ struct Place {
 }
 
 fn locate(width: usize, slot: usize) -> Place
-    requires { ⌜ (1 ≤ width) × (width ≤ 16) × (slot < 4096) ⌝ }
+    requires { ⌜ (1 ≤ width) × (width ≤ widest) × (slot < mostSlots) ⌝ }
     ensures lies { λ r. ⌜ ((r .first + r .count) * 8 ≡ slot * width + width + r .after) × (r .first * 8 ≤ slot * width) ⌝ }
     ensures short { λ r. ⌜ (1 ≤ r .count) × (r .count ≤ 3) × (r .after < 8) ⌝ }
 {
@@ -32,7 +33,7 @@ fn locate(width: usize, slot: usize) -> Place
 
 // The number in a slot with three bytes or more behind its first one: four bytes hold the slot, wherever in the first it begins.
 fn get_of_four(width: usize, ring: &[u8], slot: usize) -> u64
-    requires { ⌜ (1 ≤ width) × (width ≤ 16) × (slot < 4096) × (slot * width / 8 + 4 ≤ length (now ring)) ⌝ }
+    requires { ⌜ (1 ≤ width) × (width ≤ widest) × (slot < mostSlots) × (slot * width / 8 + 4 ≤ length (now ring)) ⌝ }
     ensures { λ r. ⌜ r ≡ field width (now (ring .entry)) slot ⌝ }
 {
     let from = slot * width;
@@ -42,7 +43,7 @@ fn get_of_four(width: usize, ring: &[u8], slot: usize) -> u64
 
 // The number in a slot. All but the last slots are read by one load, without asking in how many bytes they lie.
 pub(crate) fn get(width: usize, ring: &[u8], slot: usize) -> u64
-    requires { ⌜ (1 ≤ width) × (width ≤ 16) × (slot < 4096) × (slot * width + width ≤ length (now ring) * 8) ⌝ }
+    requires { ⌜ (1 ≤ width) × (width ≤ widest) × (slot < mostSlots) × (slot * width + width ≤ length (now ring) * 8) ⌝ }
     ensures { λ r. ⌜ r ≡ field width (now (ring .entry)) slot ⌝ }
 {
     if slot * width / 8 + 4 <= ring.len() {
@@ -56,7 +57,7 @@ pub(crate) fn get(width: usize, ring: &[u8], slot: usize) -> u64
 
 // Puts a value into a slot.
 pub(crate) fn put(width: usize, ring: &mut [u8], slot: usize, value: u64)
-    requires { ⌜ (1 ≤ width) × (width ≤ 16) × (slot < 4096) × (slot * width + width ≤ length (now ring) * 8) × (value < 2 ^ width) ⌝ }
+    requires { ⌜ (1 ≤ width) × (width ≤ widest) × (slot < mostSlots) × (slot * width + width ≤ length (now ring) * 8) × (value < 2 ^ width) ⌝ }
     ensures { λ r. ⌜ now (ring .exit) ≡ written width (now (ring .entry)) slot value ⌝ }
 {
     let at = locate(width, slot);
@@ -69,7 +70,7 @@ pub(crate) fn put(width: usize, ring: &mut [u8], slot: usize, value: u64)
 
 // The sum of the last n of the first `end` slots.
 fn sum_last(width: usize, ring: &[u8], end: usize, n: usize) -> u64
-    requires { ⌜ (1 ≤ width) × (width ≤ 16) × (end ≤ 4096) × (end * width ≤ length (now ring) * 8) × (n ≤ end) ⌝ }
+    requires { ⌜ (1 ≤ width) × (width ≤ widest) × (end ≤ mostSlots) × (end * width ≤ length (now ring) * 8) × (n ≤ end) ⌝ }
     ensures { λ r. ⌜ r ≡ sumNewest (field width (now (ring .entry))) end end n ⌝ }
 {
     let mut sum: u64 = 0;
@@ -83,7 +84,7 @@ fn sum_last(width: usize, ring: &[u8], end: usize, n: usize) -> u64
 
 // The sum of the j newest slots before the slot `next`: those below it, and then the last ones of the ring.
 pub(crate) fn sum_newest(width: usize, slots: usize, ring: &[u8], next: usize, j: usize) -> u64
-    requires { ⌜ (1 ≤ width) × (width ≤ 16) × (slots ≤ 4096) × (slots * width ≤ length (now ring) * 8) × (next < slots) × (j ≤ slots) ⌝ }
+    requires { ⌜ (1 ≤ width) × (width ≤ widest) × (slots ≤ mostSlots) × (slots * width ≤ length (now ring) * 8) × (next < slots) × (j ≤ slots) ⌝ }
     ensures { λ r. ⌜ r ≡ sumNewest (field width (now (ring .entry))) slots next j ⌝ }
 {
     if j <= next {

@@ -2,21 +2,23 @@
 ghost use mathlib.Core.Path.{_≡_};
 ghost use mathlib.Core.List.{_++_};
 ghost use Prim.Native.Nat.{_+_, _≤_, _<_, _*_, _/_, _%_, _^_};
-ghost use lib.ListN.{length, take, drop};
-ghost use Rattle.ring.specs.Row.{digits, number, bits, packed};
+ghost use lib.ListN.{length, getD, take, drop};
+ghost use Rattle.bits.specs.Row.{digits, number, bits, packed};
 
 // 2 to the power n.
 pub(crate) fn power(n: usize) -> u64
-    requires { ⌜ n ≤ 32 ⌝ }
+    requires { ⌜ n ≤ 63 ⌝ }
     ensures { λ r. ⌜ r ≡ 2 ^ n ⌝ }
 {
     1u64 << n
 }
 
-fn wide(byte: u8) -> u64
-    ensures { λ r. ⌜ r ≡ byte ⌝ }
+// The byte at a place, as a wider number.
+fn byte(ring: &[u8], at: usize) -> u64
+    requires { ⌜ at < length (now ring) ⌝ }
+    ensures { λ r. ⌜ (r ≡ getD (now (ring .entry)) at 0) × (r ≤ 255) ⌝ }
 {
-    byte as u64
+    ring[at] as u64
 }
 
 // The number that the `count` bytes from `first` on write.
@@ -24,15 +26,15 @@ pub(crate) fn load(ring: &[u8], first: usize, count: usize) -> u64
     requires { ⌜ (1 ≤ count) × (count ≤ 3) × (first + count ≤ length (now ring)) ⌝ }
     ensures { λ r. ⌜ r ≡ number (bits (take count (drop first (now (ring .entry))))) ⌝ }
 {
-    let one = wide(ring[first]);
+    let one = byte(ring, first);
     if count == 1 {
         return one;
     }
-    let two = one * 256 + wide(ring[first + 1]);
+    let two = one * 256 + byte(ring, first + 1);
     if count == 2 {
         return two;
     }
-    two * 256 + wide(ring[first + 2])
+    two * 256 + byte(ring, first + 2)
 }
 
 // The number that the four bytes from `first` on write. (The compiler makes one load of the four.)
@@ -40,9 +42,9 @@ pub(crate) fn load_four(ring: &[u8], first: usize) -> u64
     requires { ⌜ first + 4 ≤ length (now ring) ⌝ }
     ensures { λ r. ⌜ r ≡ number (bits (take 4 (drop first (now (ring .entry))))) ⌝ }
 {
-    let two = wide(ring[first]) * 256 + wide(ring[first + 1]);
-    let three = two * 256 + wide(ring[first + 2]);
-    three * 256 + wide(ring[first + 3])
+    let two = byte(ring, first) * 256 + byte(ring, first + 1);
+    let three = two * 256 + byte(ring, first + 2);
+    three * 256 + byte(ring, first + 3)
 }
 
 // Puts the lowest `count` bytes of `word` in the place of the bytes from `first` on.

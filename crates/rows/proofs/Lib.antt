@@ -1,3 +1,3 @@
 pub mod Digits
 pub mod Writing
-pub mod Unique
+pub mod Demand1

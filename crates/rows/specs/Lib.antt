@@ -1,3 +1,4 @@
 pub mod Decimal
 pub mod Row
-pub mod Wrote
+pub mod Appended
+pub mod Calls

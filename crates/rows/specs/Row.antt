@@ -1,10 +1,6 @@
 -- The lines that the program writes: fields parted by commas, each line ended by CR LF, as in RFC 4180.
 use Prim.Native.Nat.{ℕ}
-use mathlib.Core.Bool.{cond}
 use mathlib.Core.List.{List, [], _∷_, _++_}
-use lib.Dec.{ltb}
-use lib.ListN.{length}
-use lib.Seq.{sets}
 use Rattle.rows.specs.declared.Word.{Word}
 use Rattle.rows.specs.declared.Word.the-variants.{Early, Live, Frozen, Undecided}
 use Rattle.rows.specs.declared.Scored.{Scored}
@@ -43,11 +39,3 @@ unfoldable pub headText : List ℕ
 headText =
     102 ∷ 114 ∷ 97 ∷ 109 ∷ 101 ∷ 44 ∷ 115 ∷ 99 ∷ 111 ∷ 114 ∷ 101 ∷ 44 ∷ 107 ∷ 101 ∷ 112 ∷ 116 ∷ 44 ∷ 116 ∷ 111 ∷ 116 ∷ 97 ∷ 108 ∷ 44
     ∷ 118 ∷ 101 ∷ 114 ∷ 100 ∷ 105 ∷ 99 ∷ 116 ∷ 13 ∷ 10 ∷ []
-
--- a line goes to the start of the lent bytes where these are at least 96, which holds any line; else nothing is written
-unfoldable pub lineInto : List ℕ → List ℕ → List ℕ
-lineInto out line = cond (ltb (length out) 96) out (sets out 0 line)
-
--- and its length is given, or 0
-unfoldable pub lineLength : List ℕ → List ℕ → ℕ
-lineLength out line = cond (ltb (length out) 96) 0 (length line)

@@ -3,15 +3,16 @@ ghost use mathlib.Core.List.{_∷_, []};
 ghost use mathlib.Core.Path.{_≡_};
 ghost use Prim.Native.Nat.{_+_, _≤_, _<_};
 ghost use lib.ListN.{length};
+ghost use Rattle.rows.specs.Calls.{lineMost};
 ghost use Rattle.rows.specs.Decimal.{decimal};
 ghost use Rattle.rows.specs.Row.{fieldText, scoreText, wordText, rowText, refusedText};
-ghost use Rattle.rows.specs.Wrote.{Wrote};
+ghost use Rattle.rows.specs.Appended.{Appended};
 use crate::Scored;
 use crate::Word;
 
 pub(crate) fn byte(out: &mut [u8], at: usize, b: u8) -> usize
     requires { ⌜ at < length (now out) ⌝ }
-    ensures { λ r. ⌜ Wrote (now (out .entry)) at (b ∷ []) (now (out .exit)) r ⌝ }
+    ensures { λ r. ⌜ Appended (now (out .entry)) at (b ∷ []) (now (out .exit)) r ⌝ }
 {
     out[at] = b;
     at + 1
@@ -19,7 +20,7 @@ pub(crate) fn byte(out: &mut [u8], at: usize, b: u8) -> usize
 
 pub(crate) fn text(out: &mut [u8], at: usize, s: &[u8]) -> usize
     requires { ⌜ at + length (now s) ≤ length (now out) ⌝ }
-    ensures { λ r. ⌜ Wrote (now (out .entry)) at (now (s .entry)) (now (out .exit)) r ⌝ }
+    ensures { λ r. ⌜ Appended (now (out .entry)) at (now (s .entry)) (now (out .exit)) r ⌝ }
 {
     let mut i = 0;
     while i < s.len() {
@@ -32,7 +33,7 @@ pub(crate) fn text(out: &mut [u8], at: usize, s: &[u8]) -> usize
 // The digits of a number: those of its tenth, and then its last one.
 pub(crate) fn number(out: &mut [u8], at: usize, n: u64) -> usize
     requires { ⌜ at + length (decimal n) ≤ length (now out) ⌝ }
-    ensures { λ r. ⌜ Wrote (now (out .entry)) at (decimal n) (now (out .exit)) r ⌝ }
+    ensures { λ r. ⌜ Appended (now (out .entry)) at (decimal n) (now (out .exit)) r ⌝ }
 {
     if n < 10 {
         return byte(out, at, digit(n));
@@ -58,7 +59,7 @@ fn digit(d: u64) -> u8
 // A number and the comma behind it.
 pub(crate) fn field(out: &mut [u8], at: usize, n: u64) -> usize
     requires { ⌜ at + 21 ≤ length (now out) ⌝ }
-    ensures text { λ r. ⌜ Wrote (now (out .entry)) at (fieldText n) (now (out .exit)) r ⌝ }
+    ensures text { λ r. ⌜ Appended (now (out .entry)) at (fieldText n) (now (out .exit)) r ⌝ }
     ensures room { λ r. ⌜ r ≤ at + 21 ⌝ }
 {
     let next = number(out, at, n);
@@ -68,7 +69,7 @@ pub(crate) fn field(out: &mut [u8], at: usize, n: u64) -> usize
 // The score and the comma behind it.
 pub(crate) fn score(out: &mut [u8], at: usize, scored: Scored) -> usize
     requires { ⌜ at + 21 ≤ length (now out) ⌝ }
-    ensures text { λ r. ⌜ Wrote (now (out .entry)) at (scoreText scored) (now (out .exit)) r ⌝ }
+    ensures text { λ r. ⌜ Appended (now (out .entry)) at (scoreText scored) (now (out .exit)) r ⌝ }
     ensures room { λ r. ⌜ r ≤ at + 21 ⌝ }
 {
     match scored {
@@ -80,7 +81,7 @@ pub(crate) fn score(out: &mut [u8], at: usize, scored: Scored) -> usize
 // The word of the last field, and the line's end.
 pub(crate) fn word(out: &mut [u8], at: usize, w: Word) -> usize
     requires { ⌜ at + 11 ≤ length (now out) ⌝ }
-    ensures { λ r. ⌜ Wrote (now (out .entry)) at (wordText w) (now (out .exit)) r ⌝ }
+    ensures { λ r. ⌜ Appended (now (out .entry)) at (wordText w) (now (out .exit)) r ⌝ }
 {
     match w {
         Word::Early => return text(out, at, b"early\r\n"),
@@ -99,8 +100,8 @@ pub(crate) fn row(
     total: u64,
     w: Word,
 ) -> usize
-    requires { ⌜ 96 ≤ length (now out) ⌝ }
-    ensures { λ r. ⌜ Wrote (now (out .entry)) 0 (rowText frame scored kept total w) (now (out .exit)) r ⌝ }
+    requires { ⌜ lineMost ≤ length (now out) ⌝ }
+    ensures { λ r. ⌜ Appended (now (out .entry)) 0 (rowText frame scored kept total w) (now (out .exit)) r ⌝ }
 {
     let a = field(out, 0, frame);
     let b = score(out, a, scored);
@@ -111,8 +112,8 @@ pub(crate) fn row(
 
 // A row for a refusal.
 pub(crate) fn refused(out: &mut [u8], frame: u64, refusal: u64) -> usize
-    requires { ⌜ 96 ≤ length (now out) ⌝ }
-    ensures { λ r. ⌜ Wrote (now (out .entry)) 0 (refusedText frame refusal) (now (out .exit)) r ⌝ }
+    requires { ⌜ lineMost ≤ length (now out) ⌝ }
+    ensures { λ r. ⌜ Appended (now (out .entry)) 0 (refusedText frame refusal) (now (out .exit)) r ⌝ }
 {
     let a = field(out, 0, frame);
     let b = text(out, a, b"refused ");

@@ -2,5 +2,4 @@ pub mod Counts
 pub mod Refused
 pub mod Scored
 pub mod Demand1
-pub mod Unique
 pub mod Promises

@@ -5,37 +5,32 @@ use Prim.Native.Nat.{ℕ, zero, suc, _*_, _≤_}
 use mathlib.Core.List.{List}
 use mathlib.Core.Path.{_≡_, refl}
 use native.Mathlib.Omega.{arith}
-use Rattle.refusals.specs.First.{unlessRefused}
+use Rattle.refusals.specs.Call.{resultOf}
+use Rattle.refusals.proofs.Calls.{result-cases}
 use Rattle.image.specs.Pixels.{pixelBytes, pixelAt}
 use Rattle.image.specs.Reading.{numbersOf, rasterIn}
 use Rattle.score.specs.Changed.{apart, moved, changed}
-use Rattle.score.specs.Calls.{scoreRefusal, scoreNumber, scoreAnswer}
+use Rattle.score.specs.declared.Answer.{Answer}
+use Rattle.score.specs.Calls.{scoreNumber, scoreCall}
 use Rattle.score.proofs.Counts.{changed-le, still-counts-not}
-pub use Rattle.score.proofs.Refused.{Alike, alike-known}
-pub use Rattle.score.proofs.Demand1.{refused-gives-0, refusal-first, taken-none, none-taken}
-
-unless-le : (refusal value bound : ℕ) → value ≤ bound → unlessRefused refusal value 0 ≤ bound
-unless-le zero value bound h = h
-unless-le (suc refusal) value bound h = omega arith
+pub use Rattle.score.proofs.Refused.{none-alike}
+pub use Rattle.score.proofs.Demand1.{score-promised}
 
 module _ (bound allowance : ℕ) (first second : List ℕ) where
   -- at most L: what the book asks of an item
-  pub score-le-bound : scoreAnswer bound allowance first second .value ≤ bound
-  unfolding scoreAnswer scoreNumber
+  pub score-le-bound : resultOf (scoreCall bound allowance first second) .value ≤ bound
+  unfolding scoreCall scoreNumber
   score-le-bound =
-      unless-le (scoreRefusal bound (numbersOf first) (numbersOf second)) (scoreNumber bound allowance first second) bound (omega arith)
+      result-cases (λ r. r .value ≤ bound) (scoreCall bound allowance first second) (λ e. omega arith) (λ number e. omega arith)
 
   -- at most the number of positions
-  pub score-le-positions : scoreAnswer bound allowance first second .value ≤ numbersOf first .width * numbersOf first .height
-  unfolding scoreAnswer scoreNumber
+  pub score-le-positions : resultOf (scoreCall bound allowance first second) .value ≤ numbersOf first .width * numbersOf first .height
+  unfolding scoreCall scoreNumber
   score-le-positions =
-      unless-le (scoreRefusal bound (numbersOf first) (numbersOf second)) (scoreNumber bound allowance first second)
-      (numbersOf first .width * numbersOf first .height)
-      (omega (
-        arith,
-        changed-le allowance (pixelAt pixelBytes (rasterIn first)) (pixelAt pixelBytes (rasterIn second))
-            (numbersOf first .width * numbersOf first .height),
-      ))
+      let positions = numbersOf first .width * numbersOf first .height in
+      result-cases (λ r. r .value ≤ positions) (scoreCall bound allowance first second)
+      (λ e. omega (arith, changed-le allowance (pixelAt pixelBytes (rasterIn first)) (pixelAt pixelBytes (rasterIn second)) positions))
+      (λ number e. omega arith)
 
 -- the count is the same the other way round
 pub changed-either-way : (allowance : ℕ) (first second : ℕ → ℕ) (count : ℕ)

@@ -1,20 +1,21 @@
 -- The score of two images: what is refused, in order, and the number that is given.
-use Prim.Native.Nat.{ℕ, zero, suc, _*_, min}
-use mathlib.Core.Bool.{true, not}
-use mathlib.Core.List.{List, [], _∷_, _++_}
+use Prim.Native.Nat.{ℕ, _*_, min}
+use mathlib.Core.Bool.{not}
+use mathlib.Core.List.{List, [], _∷_}
+use mathlib.Core.Path.{_≡_}
 use lib.Dec.{eqb}
 use Rattle.refusals.specs.Numbers.{badBound, imagesDiffer}
-use Rattle.refusals.specs.First.{Fault, _gives_, firstOf, unlessRefused, outside}
+use Rattle.refusals.specs.First.{Fault, _gives_, passedOn, outside}
+use Rattle.refusals.specs.Call.{Call}
 use Rattle.image.specs.declared.Numbers.{Numbers}
 use Rattle.image.specs.Pixels.{pixelBytes, pixelAt}
 use Rattle.image.specs.Reading.{numbersOf, rasterIn}
 use Rattle.score.specs.declared.Answer.{Answer}
 use Rattle.score.specs.Changed.{changed}
 
--- an image's own refusal, where it has one
-abbrev pub ownFault : ℕ → List Fault
-ownFault zero = []
-ownFault (suc number) = (true gives suc number) ∷ []
+-- L is 1 to 65,535, as in a book
+abbrev pub largestBound : ℕ
+largestBound = 65535
 
 -- 16: the images differ in width, height or maxval
 abbrev pub differFaults : Numbers → Numbers → List Fault
@@ -27,11 +28,7 @@ differFaults one two =
 -- in order: L out of range, the first image's refusal, the second's, images that differ
 abbrev pub scoreFaults : ℕ → Numbers → Numbers → List Fault
 scoreFaults bound one two =
-    (outside 1 65535 bound gives badBound)
-    ∷ (ownFault (one .refusal) ++ (ownFault (two .refusal) ++ differFaults one two))
-
-unfoldable pub scoreRefusal : ℕ → Numbers → Numbers → ℕ
-scoreRefusal bound one two = firstOf (scoreFaults bound one two)
+    (outside 1 largestBound bound gives badBound) ∷ passedOn (one .refusal) ∷ passedOn (two .refusal) ∷ differFaults one two
 
 -- the number of positions whose pixels differ by more than the allowance, or L if that number is larger
 unfoldable pub scoreNumber : ℕ → ℕ → List ℕ → List ℕ → ℕ
@@ -40,8 +37,21 @@ scoreNumber bound allowance first second =
     min bound
     (changed allowance (pixelAt pixelBytes (rasterIn first)) (pixelAt pixelBytes (rasterIn second)) positions)
 
--- the answer: a refusal with the number 0, or the score
-unfoldable pub scoreAnswer : ℕ → ℕ → List ℕ → List ℕ → Answer
-scoreAnswer bound allowance first second =
-    let refusal = scoreRefusal bound (numbersOf first) (numbersOf second) in
-    record { refusal = refusal; value = unlessRefused refusal (scoreNumber bound allowance first second) 0 }
+-- the call: the score, or a refusal with the number 0; both images are lent only to be read
+unfoldable pub scoreCall : ℕ → ℕ → List ℕ → List ℕ → Call Answer (List ℕ × List ℕ)
+scoreCall bound allowance first second =
+    record {
+      faults = scoreFaults bound (numbersOf first) (numbersOf second);
+      given = record { refusal = 0; value = scoreNumber bound allowance first second };
+      left = (first, second);
+      back = λ number. record { refusal = number; value = 0 };
+      lent = (first, second);
+    }
+
+-- two images that may be compared
+pub record Alike (one two : Numbers) : Type 0 where
+  pub one-taken : one .refusal ≡ 0
+  pub two-taken : two .refusal ≡ 0
+  pub width : one .width ≡ two .width
+  pub height : one .height ≡ two .height
+  pub maxval : one .maxval ≡ two .maxval

@@ -1,7 +1,8 @@
 // How much changed between two images: the number of positions whose pixels differ by more than an allowance.
 // Every call answers; what it answers is defined in specs/Calls.antt.
 ghost use mathlib.Core.Path.{_≡_};
-ghost use Rattle.score.specs.Calls.{scoreAnswer};
+ghost use Rattle.refusals.specs.Call.{resultOf};
+ghost use Rattle.score.specs.Calls.{scoreCall};
 
 mod count;
 mod judge;
@@ -15,7 +16,7 @@ pub struct Answer {
 
 // The score of two images under an allowance, or `bound` where the score is larger.
 pub fn score(bound: u64, allowance: u8, first: &[u8], second: &[u8]) -> Answer
-    ensures { λ r. ⌜ r ≡ scoreAnswer bound allowance (now (first .entry)) (now (second .entry)) ⌝ }
+    ensures { λ r. ⌜ r ≡ resultOf (scoreCall bound allowance (now (first .entry)) (now (second .entry))) ⌝ }
 {
     let one = image::header(first);
     let two = image::header(second);

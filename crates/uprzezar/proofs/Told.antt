@@ -1,6 +1,6 @@
 -- What crosses to C says the same as the answer: the place is that of the raster's very bytes, and a case is told by its number.
 -- Assumes nothing.
-use Prim.Native.Nat.{ℕ, zero, suc}
+use Prim.Native.Nat.{ℕ}
 use mathlib.Core.List.{List}
 use mathlib.Core.Path.{_≡_, refl}
 use lib.ListN.{take, drop}
@@ -9,18 +9,10 @@ use Rattle.book.specs.declared.verdicts.Verdict.the-variants.{Live, Frozen, Und
 use Rattle.book.specs.declared.verdicts.Ruling.{Ruling}
 use Rattle.book.specs.declared.verdicts.Ruling.the-variants.{Told, Refused}
 use Rattle.image.specs.Reading.{rasterIn}
-use Rattle.uprzezar.specs.Crossing.{asNumbers, rasterPlace}
-use Rattle.uprzezar.specs.declared.Ruled.{Ruled}
+use Rattle.uprzezar.specs.Crossing.{asNumbers, rasterPlace, verdictIn}
 
 pub place-is-raster : (s : List ℕ) → take (rasterPlace s .length) (drop (rasterPlace s .offset) s) ≡ rasterIn s
 place-is-raster s = refl
-
--- the verdict that three numbers tell; a refusal is told by its own number
-abbrev pub verdictIn : Ruled → ℕ → Ruling
-verdictIn told zero = Refused (told .refusal)
-verdictIn told (suc zero) = Told (Live (told .figure))
-verdictIn told (suc (suc zero)) = Told (Frozen (told .figure))
-verdictIn told (suc (suc (suc other))) = Told (Undecided (told .figure))
 
 -- nothing is lost: the answer can be read back
 pub read-back : (ruling : Ruling) → verdictIn (asNumbers ruling) (asNumbers ruling .verdict) ≡ ruling

@@ -1,7 +1,8 @@
 // The calls of images and of the score.
 ghost use mathlib.Core.Path.{_≡_};
 ghost use Rattle.image.specs.Reading.{numbersOf};
-ghost use Rattle.score.specs.Calls.{scoreAnswer};
+ghost use Rattle.refusals.specs.Call.{resultOf};
+ghost use Rattle.score.specs.Calls.{scoreCall};
 ghost use Rattle.uprzezar.specs.Crossing.{rasterPlace};
 use crate::Raster;
 use crate::crossing;
@@ -36,7 +37,7 @@ pub extern "C" fn uprzezar_score(
     first: &[u8],
     second: &[u8],
 ) -> score::Answer
-    ensures { λ r. ⌜ r ≡ scoreAnswer bound allowance (now (first .entry)) (now (second .entry)) ⌝ }
+    ensures { λ r. ⌜ r ≡ resultOf (scoreCall bound allowance (now (first .entry)) (now (second .entry))) ⌝ }
 {
     score::score(bound, allowance, first, second)
 }

@@ -1,12 +1,12 @@
 // The ring's calls.
 ghost use mathlib.Core.Path.{_≡_};
-ghost use lib.ListN.{length};
-ghost use Rattle.ring.specs.Calls.{clearRefusal, clearBytes, readAnswer, writeRefusal, writeBytes, sumAnswer};
+ghost use Rattle.refusals.specs.Call.{resultOf, leftOf};
+ghost use Rattle.ring.specs.Calls.{clearCall, readCall, writeCall, sumCall};
 
 // Sets the first bytes of the ring, as many as it takes, to 0.
 #[no_mangle]
 pub extern "C" fn uprzezar_ring_clear(width: usize, slots: usize, ring: &mut [u8]) -> u8
-    ensures { λ r. ⌜ (r ≡ clearRefusal width slots (length (now (ring .entry)))) × (now (ring .exit) ≡ clearBytes width slots (now (ring .entry))) ⌝ }
+    ensures { λ r. ⌜ (r ≡ resultOf (clearCall width slots (now (ring .entry)))) × (now (ring .exit) ≡ leftOf (clearCall width slots (now (ring .entry)))) ⌝ }
 {
     ring::clear(width, slots, ring)
 }
@@ -19,7 +19,7 @@ pub extern "C" fn uprzezar_ring_read(
     ring: &[u8],
     slot: usize,
 ) -> ring::Answer
-    ensures { λ r. ⌜ r ≡ readAnswer width slots (now (ring .entry)) slot ⌝ }
+    ensures { λ r. ⌜ r ≡ resultOf (readCall width slots (now (ring .entry)) slot) ⌝ }
 {
     ring::read(width, slots, ring, slot)
 }
@@ -33,7 +33,7 @@ pub extern "C" fn uprzezar_ring_write(
     slot: usize,
     value: u64,
 ) -> u8
-    ensures { λ r. ⌜ (r ≡ writeRefusal width slots (length (now (ring .entry))) slot value) × (now (ring .exit) ≡ writeBytes width slots (now (ring .entry)) slot value) ⌝ }
+    ensures { λ r. ⌜ (r ≡ resultOf (writeCall width slots (now (ring .entry)) slot value)) × (now (ring .exit) ≡ leftOf (writeCall width slots (now (ring .entry)) slot value)) ⌝ }
 {
     ring::write(width, slots, ring, slot, value)
 }
@@ -47,7 +47,7 @@ pub extern "C" fn uprzezar_ring_sum(
     next: usize,
     j: usize,
 ) -> ring::Answer
-    ensures { λ r. ⌜ r ≡ sumAnswer width slots (now (ring .entry)) next j ⌝ }
+    ensures { λ r. ⌜ r ≡ resultOf (sumCall width slots (now (ring .entry)) next j) ⌝ }
 {
     ring::sum(width, slots, ring, next, j)
 }

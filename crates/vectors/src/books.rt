@@ -1,9 +1,8 @@
 // The book's calls. Each gives how many bytes its answer has, 0 if the line cannot be read.
 use crate::fields::calls;
-use crate::fields::has;
 use crate::reading::bytes_in;
 use crate::reading::number_in;
-use crate::reading::number_up_to;
+use crate::reading::number_or_0;
 use crate::reading::record_in;
 use crate::text;
 use book::Book;
@@ -12,16 +11,15 @@ use book::verdicts::Ruling;
 use book::verdicts::Verdict;
 ghost use Rattle.io.specs.Counts.{Counts};
 
-// What opening is handed: `L n D ring`. The ring lies at the start of the lent slice, here and below.
-struct Wanted {
+// What a shape is asked for and a book is opened with: `L n D`.
+struct Setting {
     ok: bool,
     bound: u64,
     length: u64,
     tolerance: u64,
-    bytes: usize,
 }
 
-// What the calls on a record are handed: `record ring`, then one or two numbers.
+// What the calls on a record are handed: `record ring`, then one or two numbers. The ring lies at the start of the lent slice.
 struct Asked {
     ok: bool,
     book: Book,
@@ -30,32 +28,28 @@ struct Asked {
     fourth: u64,
 }
 
-fn opening(line: &[u8], ring: &mut [u8]) -> Wanted
-    ensures { λ r. ⌜ Counts (r .bytes) (now (ring .exit)) ⌝ }
-{
+fn setting_in(line: &[u8]) -> Setting {
     let bound = number_in(line, 1);
     let length = number_in(line, 2);
     let tolerance = number_in(line, 3);
-    let taken = bytes_in(line, 4, ring);
-    Wanted {
-        ok: has(line, 4) && bound.ok && length.ok && tolerance.ok && taken.ok,
+    Setting {
+        ok: bound.ok && length.ok && tolerance.ok,
         bound: bound.value,
         length: length.value,
         tolerance: tolerance.value,
-        bytes: taken.size,
     }
 }
 
-fn arguments(line: &[u8], ring: &mut [u8], last: usize) -> Asked
+fn arguments(line: &[u8], ring: &mut [u8]) -> Asked
     ensures { λ r. ⌜ Counts (r .bytes) (now (ring .exit)) ⌝ }
 {
     let entry = record_in(line);
     let third = number_in(line, 3);
-    let fourth = number_up_to(line, 4, last);
+    let fourth = number_or_0(line, 4);
     let taken = bytes_in(line, 2, ring);
     let book = entry.book;
     Asked {
-        ok: has(line, last) && entry.ok && third.ok && fourth.ok && taken.ok,
+        ok: entry.ok && third.ok && fourth.ok && taken.ok,
         book,
         bytes: taken.size,
         third: third.value,
@@ -71,8 +65,20 @@ fn updated(r: Updated, ring: &[u8], out: &mut [u8]) -> usize {
     text::bytes(out, behind, ring)
 }
 
-fn opened(q: Wanted, ring: &mut [u8], out: &mut [u8]) -> usize {
-    let r = book::open(q.bound, q.length, q.tolerance, ring);
+// The refusal, then c, s, z, b and B.
+fn shaped(s: Setting, out: &mut [u8]) -> usize {
+    let r = book::shape::derive(s.bound, s.length, s.tolerance);
+    let n = r.shape;
+    let zero = text::refusal(out, r.refusal);
+    let one = text::next(out, zero, n.block);
+    let two = text::next(out, one, n.slots);
+    let three = text::next(out, two, n.largest);
+    let four = text::next(out, three, n.width);
+    text::next(out, four, n.bytes)
+}
+
+fn opened(s: Setting, ring: &mut [u8], out: &mut [u8]) -> usize {
+    let r = book::open(s.bound, s.length, s.tolerance, ring);
     updated(r, ring, out)
 }
 
@@ -91,7 +97,7 @@ fn totalled(q: Asked, ring: &[u8], out: &mut [u8]) -> usize {
 
 fn found(q: Asked, ring: &[u8], out: &mut [u8]) -> usize {
     let b = q.book;
-    let r = book::far(b, ring, q.third);
+    let r = book::how_far_back(b, ring, q.third);
     let at = text::refusal(out, r.refusal);
     text::next(out, at, r.window)
 }
@@ -126,66 +132,51 @@ fn ruled(q: Asked, ring: &[u8], out: &mut [u8]) -> usize {
     }
 }
 
+fn shape(line: &[u8], out: &mut [u8]) -> usize {
+    let s = setting_in(line);
+    if s.ok {
+        return shaped(s, out);
+    }
+    0
+}
+
 fn open(line: &[u8], ring: &mut [u8], out: &mut [u8]) -> usize {
-    let q = opening(line, ring);
-    let n = q.bytes;
-    if q.ok {
-        return opened(q, &mut ring[..n], out);
+    let s = setting_in(line);
+    let taken = bytes_in(line, 4, ring);
+    let n = taken.size;
+    if s.ok && taken.ok {
+        return opened(s, &mut ring[..n], out);
     }
     0
 }
 
-fn add(line: &[u8], ring: &mut [u8], out: &mut [u8]) -> usize {
-    let q = arguments(line, ring, 3);
-    let n = q.bytes;
-    if q.ok {
-        return added(q, &mut ring[..n], out);
+fn called(line: &[u8], q: Asked, ring: &mut [u8], out: &mut [u8]) -> usize {
+    if calls(line, b"add", 3) {
+        return added(q, ring, out);
     }
-    0
-}
-
-fn total(line: &[u8], ring: &mut [u8], out: &mut [u8]) -> usize {
-    let q = arguments(line, ring, 3);
-    let n = q.bytes;
-    if q.ok {
-        return totalled(q, &ring[..n], out);
+    if calls(line, b"total", 3) {
+        return totalled(q, ring, out);
     }
-    0
-}
-
-fn far(line: &[u8], ring: &mut [u8], out: &mut [u8]) -> usize {
-    let q = arguments(line, ring, 3);
-    let n = q.bytes;
-    if q.ok {
-        return found(q, &ring[..n], out);
+    if calls(line, b"far", 3) {
+        return found(q, ring, out);
     }
-    0
-}
-
-fn verdict(line: &[u8], ring: &mut [u8], out: &mut [u8]) -> usize {
-    let q = arguments(line, ring, 4);
-    let n = q.bytes;
-    if q.ok {
-        return ruled(q, &ring[..n], out);
+    if calls(line, b"verdict", 4) {
+        return ruled(q, ring, out);
     }
     0
 }
 
 pub(crate) fn answer(line: &[u8], ring: &mut [u8], out: &mut [u8]) -> usize {
-    if calls(line, b"open") {
+    if calls(line, b"shape", 3) {
+        return shape(line, out);
+    }
+    if calls(line, b"open", 4) {
         return open(line, ring, out);
     }
-    if calls(line, b"add") {
-        return add(line, ring, out);
-    }
-    if calls(line, b"total") {
-        return total(line, ring, out);
-    }
-    if calls(line, b"far") {
-        return far(line, ring, out);
-    }
-    if calls(line, b"verdict") {
-        return verdict(line, ring, out);
+    let q = arguments(line, ring);
+    let n = q.bytes;
+    if q.ok {
+        return called(line, q, &mut ring[..n], out);
     }
     0
 }

@@ -68,17 +68,12 @@ pub(crate) fn same(a: &[u8], b: &[u8]) -> bool {
     true
 }
 
-// Whether the line calls this name.
-pub(crate) fn calls(line: &[u8], name: &[u8]) -> bool {
-    same(part(line, b' ', 0), name)
-}
-
 // A field of the line, from 0, which is the call's name.
 pub(crate) fn field(line: &[u8], number: usize) -> &[u8] {
     part(line, b' ', number)
 }
 
-// Whether the line has this many fields after the call's name.
-pub(crate) fn has(line: &[u8], arguments: usize) -> bool {
-    count(line, b' ') == arguments
+// Whether the line calls this name with this many arguments.
+pub(crate) fn calls(line: &[u8], name: &[u8], arguments: usize) -> bool {
+    same(field(line, 0), name) && count(line, b' ') == arguments
 }

@@ -1,6 +1,6 @@
 // The calls on images. Each gives how many bytes its answer has, 0 if the line cannot be read.
 use crate::fields::calls;
-use crate::fields::has;
+use crate::fields::same;
 use crate::reading::bytes_in;
 use crate::reading::number_in;
 use crate::text;
@@ -9,9 +9,24 @@ fn next(out: &mut [u8], at: usize, n: usize) -> usize {
     text::next(out, at, n as u64)
 }
 
+// Whether the raster has the very bytes that stand between two places.
+fn stands(raster: &[u8], s: &[u8], from: usize, end: usize) -> bool {
+    if from > end {
+        return false;
+    }
+    if end > s.len() {
+        return false;
+    }
+    same(raster, &s[from..end])
+}
+
+// The raster's place is told by the header's numbers, and only if the raster's own bytes stand there.
 fn numbers(s: &[u8], out: &mut [u8]) -> usize {
     let r = image::header(s);
     let raster = image::raster(s);
+    if !stands(raster, s, r.start, r.used) {
+        return 0;
+    }
     let zero = text::refusal(out, r.refusal);
     let one = next(out, zero, r.width);
     let two = next(out, one, r.height);
@@ -30,7 +45,7 @@ fn compared(bound: u64, allowance: u8, first: &[u8], second: &[u8], out: &mut [u
 fn pgm(line: &[u8], slice: &mut [u8], out: &mut [u8]) -> usize {
     let taken = bytes_in(line, 1, slice);
     let n = taken.size;
-    if has(line, 1) && taken.ok {
+    if taken.ok {
         return numbers(&slice[..n], out);
     }
     0
@@ -48,17 +63,17 @@ fn score_of(line: &[u8], first: &mut [u8], second: &mut [u8], out: &mut [u8]) ->
     if a > 255 {
         return 0;
     }
-    if has(line, 4) && bound.ok && allowance.ok && one.ok && two.ok {
+    if bound.ok && allowance.ok && one.ok && two.ok {
         return compared(bound.value, a as u8, &first[..m], &second[..n], out);
     }
     0
 }
 
 pub(crate) fn answer(line: &[u8], first: &mut [u8], second: &mut [u8], out: &mut [u8]) -> usize {
-    if calls(line, b"pgm") {
+    if calls(line, b"pgm", 1) {
         return pgm(line, first, out);
     }
-    if calls(line, b"score") {
+    if calls(line, b"score", 4) {
         return score_of(line, first, second, out);
     }
     0

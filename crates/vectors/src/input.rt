@@ -32,10 +32,23 @@ fn send(out: &[u8], count: usize) {
     }
 }
 
-// Answers one line. A line of which a part was dropped cannot be read.
+// Whether a line is a name for what follows it.
+fn is_name(line: &[u8]) -> bool {
+    if line.len() == 0 {
+        return false;
+    }
+    line[0] == b'#'
+}
+
+// Answers one line; a name is written back as it is. A line of which a part was dropped cannot be read.
 fn answer(line: &[u8], dropped: bool, first: &mut [u8], second: &mut [u8], out: &mut [u8]) {
     if dropped {
         io::write_all(1, b"?\n");
+        return;
+    }
+    if is_name(line) {
+        io::write_all(1, line);
+        io::write_all(1, b"\n");
         return;
     }
     let n = known(line, first, second, out);

@@ -84,9 +84,9 @@ pub(crate) fn number_in(line: &[u8], at: usize) -> Parsed {
     number(field(line, at))
 }
 
-// The number in a field of the line; 0 for a field that the call does not have.
-pub(crate) fn number_up_to(line: &[u8], at: usize, last: usize) -> Parsed {
-    if last < at {
+// The number in a field of the line; 0 for a field that the line does not have.
+pub(crate) fn number_or_0(line: &[u8], at: usize) -> Parsed {
+    if count(line, b' ') < at {
         return Parsed { ok: true, value: 0 };
     }
     number_in(line, at)

@@ -1,10 +1,9 @@
 // The ring's own calls. Each gives how many bytes its answer has, 0 if the line cannot be read.
 use crate::fields::calls;
-use crate::fields::has;
 use crate::reading::bytes_in;
 use crate::reading::native;
 use crate::reading::number_in;
-use crate::reading::number_up_to;
+use crate::reading::number_or_0;
 use crate::text;
 ghost use Rattle.io.specs.Counts.{Counts};
 
@@ -18,16 +17,16 @@ struct Asked {
     fifth: u64,
 }
 
-fn arguments(line: &[u8], ring: &mut [u8], last: usize) -> Asked
+fn arguments(line: &[u8], ring: &mut [u8]) -> Asked
     ensures { λ r. ⌜ Counts (r .bytes) (now (ring .exit)) ⌝ }
 {
     let width = number_in(line, 1);
     let slots = number_in(line, 2);
-    let fourth = number_up_to(line, 4, last);
-    let fifth = number_up_to(line, 5, last);
+    let fourth = number_or_0(line, 4);
+    let fifth = number_or_0(line, 5);
     let taken = bytes_in(line, 3, ring);
     Asked {
-        ok: has(line, last) && width.ok && slots.ok && fourth.ok && fifth.ok && taken.ok,
+        ok: width.ok && slots.ok && fourth.ok && fifth.ok && taken.ok,
         width: native(width.value),
         slots: native(slots.value),
         bytes: taken.size,
@@ -60,54 +59,27 @@ fn sum(q: Asked, ring: &[u8], out: &mut [u8]) -> usize {
     text::next(out, at, r.value)
 }
 
-fn ring_clear(line: &[u8], ring: &mut [u8], out: &mut [u8]) -> usize {
-    let q = arguments(line, ring, 3);
-    let n = q.bytes;
-    if q.ok {
-        return clear(q, &mut ring[..n], out);
+fn called(line: &[u8], q: Asked, ring: &mut [u8], out: &mut [u8]) -> usize {
+    if calls(line, b"ring_clear", 3) {
+        return clear(q, ring, out);
     }
-    0
-}
-
-fn ring_read(line: &[u8], ring: &mut [u8], out: &mut [u8]) -> usize {
-    let q = arguments(line, ring, 4);
-    let n = q.bytes;
-    if q.ok {
-        return read(q, &ring[..n], out);
+    if calls(line, b"ring_read", 4) {
+        return read(q, ring, out);
     }
-    0
-}
-
-fn ring_write(line: &[u8], ring: &mut [u8], out: &mut [u8]) -> usize {
-    let q = arguments(line, ring, 5);
-    let n = q.bytes;
-    if q.ok {
-        return write(q, &mut ring[..n], out);
+    if calls(line, b"ring_write", 5) {
+        return write(q, ring, out);
     }
-    0
-}
-
-fn ring_sum(line: &[u8], ring: &mut [u8], out: &mut [u8]) -> usize {
-    let q = arguments(line, ring, 5);
-    let n = q.bytes;
-    if q.ok {
-        return sum(q, &ring[..n], out);
+    if calls(line, b"ring_sum", 5) {
+        return sum(q, ring, out);
     }
     0
 }
 
 pub(crate) fn answer(line: &[u8], ring: &mut [u8], out: &mut [u8]) -> usize {
-    if calls(line, b"ring_clear") {
-        return ring_clear(line, ring, out);
-    }
-    if calls(line, b"ring_read") {
-        return ring_read(line, ring, out);
-    }
-    if calls(line, b"ring_write") {
-        return ring_write(line, ring, out);
-    }
-    if calls(line, b"ring_sum") {
-        return ring_sum(line, ring, out);
+    let q = arguments(line, ring);
+    let n = q.bytes;
+    if q.ok {
+        return called(line, q, &mut ring[..n], out);
     }
     0
 }

@@ -10,14 +10,38 @@ pub(crate) fn byte(out: &mut [u8], at: usize, value: u8) -> usize {
     at
 }
 
-pub(crate) fn word(out: &mut [u8], from: usize, word: &[u8]) -> usize {
+fn digit(nibble: u8) -> u8 {
+    if nibble < 10 {
+        return b'0' + nibble;
+    }
+    if nibble < 16 {
+        return b'a' + (nibble - 10);
+    }
+    b'?'
+}
+
+// A byte as it is, or as two hex digits.
+fn written(out: &mut [u8], at: usize, value: u8, hex: bool) -> usize {
+    if hex {
+        let half = byte(out, at, digit(value / 16));
+        return byte(out, half, digit(value % 16));
+    }
+    byte(out, at, value)
+}
+
+// Each byte in turn.
+fn each(out: &mut [u8], from: usize, s: &[u8], hex: bool) -> usize {
     let mut at = from;
     let mut i = 0;
-    while i < word.len() {
-        at = byte(out, at, word[i]);
+    while i < s.len() {
+        at = written(out, at, s[i], hex);
         i += 1;
     }
     at
+}
+
+pub(crate) fn word(out: &mut [u8], at: usize, word: &[u8]) -> usize {
+    each(out, at, word, false)
 }
 
 // A number.
@@ -54,36 +78,11 @@ pub(crate) fn record(out: &mut [u8], at: usize, b: Book) -> usize {
     listed(out, six, b.head)
 }
 
-fn digit(nibble: u8) -> u8 {
-    if nibble < 10 {
-        return b'0' + nibble;
-    }
-    if nibble < 16 {
-        return b'a' + (nibble - 10);
-    }
-    b'?'
-}
-
 // Bytes as hex behind a space, `-` for none.
 pub(crate) fn bytes(out: &mut [u8], at: usize, s: &[u8]) -> usize {
     let behind = byte(out, at, b' ');
     if s.len() == 0 {
         return byte(out, behind, b'-');
     }
-    hex(out, behind, s)
-}
-
-fn hex(out: &mut [u8], from: usize, s: &[u8]) -> usize {
-    let mut at = from;
-    let mut i = 0;
-    while i < s.len() {
-        at = pair(out, at, s[i]);
-        i += 1;
-    }
-    at
-}
-
-fn pair(out: &mut [u8], at: usize, value: u8) -> usize {
-    let half = byte(out, at, digit(value / 16));
-    byte(out, half, digit(value % 16))
+    each(out, behind, s, true)
 }

@@ -1,21 +1,21 @@
 -- A turn in its cases, as the code reaches them.
 -- Assumes nothing.
-use Prim.Native.Nat.{ℕ, _+_}
-use mathlib.Core.Bool.{Bool, true, false, not, cond, _&&_, _||_}
+use Prim.Native.Nat.{ℕ}
+use mathlib.Core.Bool.{Bool, true, false, not, cond, _&&_}
 use mathlib.Core.List.{List}
-use mathlib.Core.Path.{_≡_, refl, sym, ap, _∙_}
+use mathlib.Core.Path.{_≡_, refl, sym}
 use borrow.Author.Tests.{eq-eqb, ne-eqb}
 use lib.Dec.{eqb}
 use lib.ListN.{length, take}
-use Rattle.refusals.specs.First.{unlessRefused}
-use Rattle.refusals.proofs.Laws.{refused-keeps, taken-gives}
+use Rattle.refusals.specs.Numbers.{endsTooEarly}
+use Rattle.refusals.proofs.Laws.{refused-keeps}
 use Rattle.image.specs.declared.Numbers.{Numbers}
 use Rattle.image.specs.Reading.{numbersOf}
 use Rattle.rows.specs.declared.Scored.the-variants.{First}
 use Rattle.watch.specs.declared.State.{State}
 use Rattle.watch.specs.declared.Turn.{Turn}
 use Rattle.watch.specs.declared.Turn.the-variants.{Refused, Ends, Wait}
-use Rattle.watch.specs.Turn.{shownOf, countedOf, countedRing, decidedOf, decidedRing, waits, turnOf, turnRing}
+use Rattle.watch.specs.Turn.{shownOf, countedOf, countedRing, decidedOf, decidedRing, turnOf, turnRing}
 
 module _ (state : State) (ring last rest : List ℕ) where
   module _ (over : Bool) where
@@ -33,13 +33,13 @@ module _ (state : State) (ring last rest : List ℕ) where
 
     module _ (some : length rest ≡ 0 → ⊥) {n : Numbers} (read : n ≡ numbersOf rest) where
       -- the image is not whole yet
-      pub short-waits : (not over && eqb (n .refusal) 14) ≡ true
+      pub short-waits : (not over && eqb (n .refusal) endsTooEarly) ≡ true
           → (Wait ≡ turnOf state ring last rest over) × (ring ≡ turnRing state ring last rest over)
       unfolding turnOf turnRing
       short-waits w = rw (sym read, ne-eqb (length rest) 0 some, w) (refl, refl)
 
       -- it decides
-      pub decides : (not over && eqb (n .refusal) 14) ≡ false
+      pub decides : (not over && eqb (n .refusal) endsTooEarly) ≡ false
           → (decidedOf state ring last rest ≡ turnOf state ring last rest over) × (decidedRing state ring last rest ≡ turnRing state ring last rest over)
       unfolding turnOf turnRing
       decides w = rw (sym read, ne-eqb (length rest) 0 some, w) (refl, refl)

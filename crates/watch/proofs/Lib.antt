@@ -1,6 +1,7 @@
+pub mod Starting
+pub mod Demand1
 pub mod Deciding
-pub mod Saying
-pub mod Unique
+pub mod Stepping
 pub mod Streaming
 pub mod Whole
 pub mod Early

@@ -1,45 +1,47 @@
 -- A turn that does not wait is the same however the input goes on, so that a run over pieces writes what the whole input gives.
 -- Assumes nothing.
-use Prim.Native.Nat.{ℕ, zero, suc, _+_, _*_, _-_, _≤_, _<_}
-use native.Mathlib.Nat.{mul-le-mul}
+use Prim.Native.Nat.{ℕ, zero, suc, _+_, _-_}
 use native.Mathlib.Decide.{ℕ-discrete}
 use native.Mathlib.Omega.{arith}
-use mathlib.Core.Bool.{Bool, true, false, not, cond, _&&_, _||_}
-use mathlib.Core.List.{List, [], _∷_, _++_, append-assoc}
-use mathlib.Core.Path.{_≡_, refl, sym, ap, ap₂, _∙_}
-use borrow.Author.Tests.{eq-eqb, ne-eqb, eqb-true, eqb-false}
+use mathlib.Core.Bool.{Bool, true, false, cond, _||_}
+use mathlib.Core.List.{List, _++_}
+use mathlib.Core.Path.{_≡_, refl, sym, ap, _∙_}
+use borrow.Author.Tests.{eq-eqb, ne-eqb}
 use lib.Dec.{eqb}
-use lib.ListN.{length, take, drop, length-append}
-use lib.Seq.{length-take-le, take-append-le, drop-append-le}
-use Rattle.image.specs.declared.Numbers.{Numbers}
+use lib.ListN.{length, take, length-append}
+use lib.Seq.{length-take-le, take-append-le}
 use Rattle.image.specs.Reading.{numbersOf}
 use Rattle.image.proofs.Promises.{reading-lies, prefix-law}
 use Rattle.watch.specs.declared.State.{State}
 use Rattle.watch.specs.declared.Line.{Line}
 use Rattle.watch.specs.declared.Turn.{Turn}
-use Rattle.watch.specs.declared.Turn.the-variants.{Row, Refused, Ends, Wait}
+use Rattle.watch.specs.declared.Turn.the-variants.{Row, Refused, Wait}
 use Rattle.refusals.specs.First.{unlessRefused}
 use Rattle.rows.specs.declared.Scored.{Scored}
 use Rattle.rows.specs.declared.Scored.the-variants.{First, By}
-use Rattle.book.specs.Calls.{addAnswer, addBytes, totalAnswer}
-use Rattle.score.specs.Calls.{scoreAnswer}
+use Rattle.refusals.specs.Call.{resultOf, leftOf}
+use Rattle.refusals.specs.Numbers.{endsTooEarly}
+use Rattle.book.specs.Calls.{addCall, totalCall}
+use Rattle.score.specs.declared.Answer.{Answer}
+use Rattle.score.specs.Calls.{scoreCall}
+use Rattle.watch.specs.Setting as setting
 use Rattle.watch.specs.Turn.{shownOf, countedOf, decidedOf, decidedRing, waits, turnOf, turnRing}
 
 -- bytes at hand that do not wait
 pub record Decides (part : List ℕ) : Type 0 where
   pub some : length part ≡ 0 → ⊥
-  pub whole : numbersOf part .refusal ≡ 14 → ⊥
+  pub whole : numbersOf part .refusal ≡ endsTooEarly → ⊥
 
 decides-known : (part : List ℕ) → waits part false ≡ false → Decides part
-decides-known part w = by (ℕ-discrete (length part) 0) (ℕ-discrete (numbersOf part .refusal) 14)
+decides-known part w = by (ℕ-discrete (length part) 0) (ℕ-discrete (numbersOf part .refusal) endsTooEarly)
   where
     clash : true ≡ false → ⊥
     clash e = let z : _≡_ {A = ℕ} 0 1 = cc in omega arith
 
-    by : Dec (length part ≡ 0) → Dec (numbersOf part .refusal ≡ 14) → Decides part
-    by (yes e) other = absurd (clash (sym (ap (λ (b : Bool). b || eqb (numbersOf part .refusal) 14) (eq-eqb (length part) 0 e)) ∙ w))
+    by : Dec (length part ≡ 0) → Dec (numbersOf part .refusal ≡ endsTooEarly) → Decides part
+    by (yes e) other = absurd (clash (sym (ap (λ (b : Bool). b || eqb (numbersOf part .refusal) endsTooEarly) (eq-eqb (length part) 0 e)) ∙ w))
     by (no ne) (yes e) =
-        absurd (clash (sym (rw (ne-eqb (length part) 0 ne, eq-eqb (numbersOf part .refusal) 14 e)) ∙ w))
+        absurd (clash (sym (rw (ne-eqb (length part) 0 ne, eq-eqb (numbersOf part .refusal) endsTooEarly e)) ∙ w))
     by (no ne) (no nw) = record { some = ne; whole = nw }
 
 module _ (state : State) (ring last part more : List ℕ) (decided : Decides part) where
@@ -60,7 +62,7 @@ module _ (state : State) (ring last part more : List ℕ) (decided : Decides par
   -- whether the input is over does not matter to such bytes
   goes : (over : Bool) → waits (part ++ more) over ≡ false
   goes true = refl
-  goes false = rw (same-numbers, ne-eqb (length (part ++ more)) 0 longer, ne-eqb (numbersOf part .refusal) 14 (decided .whole))
+  goes false = rw (same-numbers, ne-eqb (length (part ++ more)) 0 longer, ne-eqb (numbersOf part .refusal) endsTooEarly (decided .whole))
 
   pub turn-decides : (over : Bool) → (turnOf state ring last (part ++ more) over ≡ decidedOf state ring last part)
       × (turnRing state ring last (part ++ more) over ≡ decidedRing state ring last part)
@@ -80,7 +82,7 @@ row-decides state ring last part line e = decides-known part (by (waits part fal
 -- the bytes that a row's image took
 shown-used : (state : State) (ring : List ℕ) (scored : Scored) (used : ℕ) (line : Line) → shownOf state ring scored used ≡ Row line → line .used ≡ used
 unfolding shownOf
-shown-used state ring scored used line = by (totalAnswer (state .book) ring (state .book .kept) .refusal) _
+shown-used state ring scored used line = by (resultOf (totalCall (state .book) ring (state .book .kept)) .refusal) _
   where
     by : (m : ℕ) (row : Line) → unlessRefused m (Row row) (Refused m) ≡ Row line → line .used ≡ row .used
     by zero row e = cc
@@ -89,15 +91,15 @@ shown-used state ring scored used line = by (totalAnswer (state .book) ring (sta
 counted-used : (state : State) (ring last image : List ℕ) (line : Line) → countedOf state ring last image ≡ Row line → line .used ≡ length image
 unfolding countedOf
 counted-used state ring last image line =
-    by (scoreAnswer 600 12 last image .refusal) (addAnswer (state .book) ring (scoreAnswer 600 12 last image .value) .refusal)
+    by (score .refusal) (resultOf (addCall (state .book) ring (score .value)) .refusal)
   where
-    value : ℕ
-    value = scoreAnswer 600 12 last image .value
+    score : Answer
+    score = resultOf (scoreCall setting.bound setting.allowance last image)
 
     shown : Turn
     shown =
-        shownOf (record { book = addAnswer (state .book) ring value .book; frames = state .frames }) (addBytes (state .book) ring value)
-        (By value) (length image)
+        let adding = addCall (state .book) ring (score .value) in
+        shownOf (record { book = resultOf adding .book; frames = state .frames }) (leftOf adding) (By (score .value)) (length image)
 
     by : (m k : ℕ) → unlessRefused m (unlessRefused k shown (Refused k)) (Refused m) ≡ Row line → line .used ≡ length image
     by zero zero e = shown-used _ _ _ _ line e

@@ -5,8 +5,8 @@ use Prim.Native.Nat.{ℕ, zero, suc, _+_, _*_, _-_, _≤_, _<_}
 use native.Mathlib.Nat.{mul-le-mul}
 use native.Mathlib.Omega.{arith}
 use mathlib.Core.Bool.{Bool, true, false, cond}
-use mathlib.Core.List.{List, [], _∷_, _++_, append-assoc, append-nil}
-use mathlib.Core.Path.{_≡_, refl, sym, ap, ap₂, _∙_}
+use mathlib.Core.List.{List, [], _++_, append-assoc, append-nil}
+use mathlib.Core.Path.{_≡_, refl, sym, ap, _∙_}
 use lib.ListN.{length, take, drop, length-append, length-take, length-drop}
 use lib.Dec.{eqb}
 use lib.Seq.{take-append-le, drop-append-le}
@@ -17,8 +17,9 @@ use Rattle.watch.specs.declared.Line.{Line}
 use Rattle.watch.specs.declared.Turn.{Turn}
 use Rattle.watch.specs.declared.Turn.the-variants.{Row, Refused, Ends, Wait}
 use Rattle.rows.specs.Row.{headText}
-use Rattle.watch.specs.Turn.{frameAfter, started, startedRing, decidedOf, decidedRing, turnOf, turnRing}
-use Rattle.watch.specs.Output.{textOf, stepText, thenRows, rowsFrom, noBytes, outputOf, Runs, begins, reads, turns}
+use Rattle.watch.specs.Turn.{frameAfter, decidedOf, decidedRing, turnOf, turnRing}
+use Rattle.watch.specs.Calls.{textOf, stepText}
+use Rattle.watch.specs.Output.{rowsFrom, firstState, firstRing, outputOf, Runs, begins, reads, turns}
 use Rattle.watch.proofs.Streaming.{Decides, row-decides, turn-decides, decided-used}
 
 -- an accepted image takes a byte at least
@@ -114,7 +115,7 @@ pub runs-right : (input written : List ℕ) (state : State) (ring last hand unre
 unfolding outputOf rowsFrom stepText
 runs-right input written state ring last hand unread begins f h =
     ap (λ (l : List ℕ). headText ++ l)
-    (rows-enough f (suc (length input)) (started noBytes) (startedRing noBytes) [] input h (omega arith))
+    (rows-enough f (suc (length input)) firstState firstRing [] input h (omega arith))
 runs-right input written state ring last hand unread (reads w s r l before piece after run) f h =
     rw (append-assoc before piece after) (runs-right input w s r l before (piece ++ after) run f (rw (append-assoc before piece after) at h))
 runs-right input written state ring last hand unread (turns w s r l before after run line row) f h =

@@ -1,2 +1,5 @@
+pub mod Setting
 pub mod Turn
+pub mod Calls
 pub mod Output
+pub mod GoodRun

@@ -1,4 +1,4 @@
--- What a frame leads to, in the setting of paper 01, "The program": allowance 12, L 600, n 1,440, D 3,600, window 30, amount 3,600.
+-- What a frame leads to, in the program's setting (specs/Setting.antt).
 use Prim.Native.Nat.{ℕ, _+_, min}
 use mathlib.Core.Bool.{Bool, not, cond, _&&_, _||_}
 use mathlib.Core.List.{List}
@@ -6,29 +6,22 @@ use lib.Dec.{eqb}
 use lib.ListN.{length, take}
 use Rattle.refusals.specs.Numbers.{endsTooEarly}
 use Rattle.refusals.specs.First.{unlessRefused}
-use Rattle.book.specs.declared.Book.{Book}
+use Rattle.refusals.specs.Call.{resultOf, leftOf}
 use Rattle.book.specs.declared.verdicts.Verdict.the-variants.{Live, Frozen, Undecided}
 use Rattle.book.specs.declared.verdicts.Ruling.{Ruling}
 use Rattle.book.specs.declared.verdicts.Ruling.the-variants.{Told}
 use Rattle.book.specs.declared.verdicts.Ruling.the-variants as rulings
-use Rattle.book.specs.Calls.{openAnswer, openBytes, addAnswer, addBytes, totalAnswer, verdictAnswer}
+use Rattle.book.specs.Calls.{addCall, totalCall, verdictCall}
 use Rattle.image.specs.Reading.{numbersOf}
-use Rattle.score.specs.Calls.{scoreAnswer}
+use Rattle.score.specs.Calls.{scoreCall}
 use Rattle.rows.specs.declared.Scored.{Scored}
 use Rattle.rows.specs.declared.Scored.the-variants.{First, By}
 use Rattle.rows.specs.declared.Word.{Word}
 use Rattle.rows.specs.declared.Word.the-variants as words
 use Rattle.watch.specs.declared.State.{State}
-use Rattle.watch.specs.declared.Line.{Line}
 use Rattle.watch.specs.declared.Turn.{Turn}
 use Rattle.watch.specs.declared.Turn.the-variants.{Row, Refused, Ends, Wait}
-
--- the state before the first frame, and its ring
-unfoldable pub started : List ℕ → State
-started ring = record { book = openAnswer 600 1440 3600 ring .book; frames = 0 }
-
-unfoldable pub startedRing : List ℕ → List ℕ
-startedRing ring = openBytes 600 1440 3600 ring
+use Rattle.watch.specs.Setting as setting
 
 -- the verdict's word, and `early` where it is refused
 abbrev pub wordOf : Ruling → Word
@@ -41,11 +34,11 @@ wordOf (rulings.Refused refusal) = words.Early
 abbrev pub frameAfter : ℕ → ℕ
 frameAfter frames = min 18446744073709551615 (frames + 1)
 
--- the row that a frame's state and score lead to: the figure for the window kept, and the verdict for window 30 and amount 3,600
+-- the row that a frame's state and score lead to: the figure for the window kept, and the verdict of the setting
 unfoldable pub shownOf : State → List ℕ → Scored → ℕ → Turn
 shownOf state ring scored used =
     let book = state .book in
-    let total = totalAnswer book ring (book .kept) in
+    let total = resultOf (totalCall book ring (book .kept)) in
     unlessRefused (total .refusal)
     (Row
     (record {
@@ -53,26 +46,26 @@ shownOf state ring scored used =
       used = used;
       scored = scored;
       total = total .figure;
-      word = wordOf (verdictAnswer book ring 30 3600);
+      word = wordOf (resultOf (verdictCall book ring setting.window setting.amount));
     }))
     (Refused (total .refusal))
 
 -- an image after the first: its score against the image before goes into the book, and what the book then says is shown
 unfoldable pub countedOf : State → List ℕ → List ℕ → List ℕ → Turn
 countedOf state ring last image =
-    let score = scoreAnswer 600 12 last image in
-    let added = addAnswer (state .book) ring (score .value) in
+    let score = resultOf (scoreCall setting.bound setting.allowance last image) in
+    let adding = addCall (state .book) ring (score .value) in
+    let added = resultOf adding in
     unlessRefused (score .refusal)
     (unlessRefused (added .refusal)
-    (shownOf (record { book = added .book; frames = state .frames }) (addBytes (state .book) ring (score .value)) (By (score .value))
-    (length image))
+    (shownOf (record { book = added .book; frames = state .frames }) (leftOf adding) (By (score .value)) (length image))
     (Refused (added .refusal)))
     (Refused (score .refusal))
 
 unfoldable pub countedRing : State → List ℕ → List ℕ → List ℕ → List ℕ
 countedRing state ring last image =
-    let score = scoreAnswer 600 12 last image in
-    unlessRefused (score .refusal) (addBytes (state .book) ring (score .value)) ring
+    let score = resultOf (scoreCall setting.bound setting.allowance last image) in
+    unlessRefused (score .refusal) (leftOf (addCall (state .book) ring (score .value))) ring
 
 -- the turn of an image that is whole, or refused
 unfoldable pub decidedOf : State → List ℕ → List ℕ → List ℕ → Turn

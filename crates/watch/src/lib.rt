@@ -1,14 +1,17 @@
 // What a frame leads to: the score against the frame before it goes into the book, and a row tells what the book now says.
-// What a turn decides and leaves is defined in specs/Turn.antt; its row, and the whole output, in specs/Output.antt.
+// What a turn decides and leaves is defined in specs/Turn.antt; the two calls in specs/Calls.antt; the whole output in specs/Output.antt.
 ghost use mathlib.Core.Path.{_≡_};
-ghost use Rattle.rows.specs.Row.{lineInto};
-ghost use Rattle.watch.specs.Turn.{started, startedRing, turnOf, turnRing};
-ghost use Rattle.watch.specs.Output.{stepOf, stepText};
+ghost use Rattle.refusals.specs.Call.{resultOf, leftOf};
+ghost use Rattle.watch.specs.Turn.{turnOf, turnRing};
+ghost use Rattle.watch.specs.Calls.{startCall, stepCall};
 use book::Book;
+use refusals::BUFFER_TOO_SHORT;
+use rows::LINE_MOST;
 use rows::Scored;
 use rows::Word;
 
 mod say;
+pub mod setting;
 mod turns;
 
 // The book, and how many frames have come.
@@ -34,23 +37,33 @@ pub enum Turn {
     Wait,
 }
 
-// What a step gives: its turn, and how many bytes of its row were written.
+// The state before the first frame, or a refusal with a record of zeros.
+pub struct Started {
+    pub refusal: u8,
+    pub state: State,
+}
+
+// What a step gives: its turn, and how many bytes of its row were written; or a refusal, and then the turn tells it too.
 pub struct Stepped {
+    pub refusal: u8,
     pub turn: Turn,
     pub wrote: usize,
 }
 
 // Opens the book of the setting in a lent ring.
-pub fn start(ring: &mut [u8]) -> State
-    ensures { λ r. ⌜ (r ≡ started (now (ring .entry))) × (now (ring .exit) ≡ startedRing (now (ring .entry))) ⌝ }
+pub fn start(ring: &mut [u8]) -> Started
+    ensures { λ r. ⌜ (r ≡ resultOf (startCall (now (ring .entry)))) × (now (ring .exit) ≡ leftOf (startCall (now (ring .entry)))) ⌝ }
 {
-    let opened = book::open(600, 1440, 3600, ring);
+    let opened = book::open(setting::BOUND, setting::LENGTH, setting::TOLERANCE, ring);
     let b = opened.book;
-    State { book: b, frames: 0 }
+    Started {
+        refusal: opened.refusal,
+        state: State { book: b, frames: 0 },
+    }
 }
 
 // One turn: `last` is the image of the frame before, `rest` the bytes behind it, and `over` says that no more will come. The row goes
-// to the start of `out`, which is to have 96 bytes at least; a smaller one stays as it is.
+// to the start of `out`. Whether it has room for a row is asked before anything changes.
 pub fn step(
     state: State,
     ring: &mut [u8],
@@ -59,12 +72,23 @@ pub fn step(
     over: bool,
     out: &mut [u8],
 ) -> Stepped
-    ensures { λ r. ⌜ (r ≡ stepOf state (now (ring .entry)) (now (last .entry)) (now (rest .entry)) over (now (out .entry))) × (now (ring .exit) ≡ turnRing state (now (ring .entry)) (now (last .entry)) (now (rest .entry)) over) × (now (out .exit) ≡ lineInto (now (out .entry)) (stepText state (now (ring .entry)) (now (last .entry)) (now (rest .entry)) over)) ⌝ }
+    ensures { λ r. ⌜ (r ≡ resultOf (stepCall state (now (ring .entry)) (now (last .entry)) (now (rest .entry)) over (now (out .entry)))) × ((now (ring .exit), now (out .exit)) ≡ leftOf (stepCall state (now (ring .entry)) (now (last .entry)) (now (rest .entry)) over (now (out .entry)))) ⌝ }
 {
+    if out.len() < LINE_MOST {
+        return Stepped {
+            refusal: BUFFER_TOO_SHORT,
+            turn: Turn::Refused(BUFFER_TOO_SHORT),
+            wrote: 0,
+        };
+    }
     let turn = decide(state, ring, last, rest, over);
     let frame = turns::one_more(state.frames);
     let wrote = say::turn(frame, turn, out);
-    Stepped { turn, wrote }
+    Stepped {
+        refusal: 0,
+        turn,
+        wrote,
+    }
 }
 
 // What the bytes at hand lead to; nothing is written yet.

@@ -2,23 +2,26 @@
 ghost use mathlib.Core.Path.{_≡_};
 ghost use mathlib.Core.Bool.{not, _&&_};
 ghost use lib.Dec.{eqb};
+ghost use Rattle.refusals.specs.Numbers.{endsTooEarly};
 ghost use Rattle.watch.specs.Turn.{wordOf, frameAfter, shownOf, countedOf, countedRing};
 use crate::Line;
 use crate::State;
 use crate::Turn;
+use crate::setting;
 use book::verdicts::Ruling;
 use book::verdicts::Verdict;
+use refusals::ENDS_TOO_EARLY;
 use rows::Scored;
 use rows::Word;
 
 // The image ends too early, but more bytes may come.
 pub(crate) fn short_yet(refusal: u8, over: bool) -> bool
-    ensures { λ r. ⌜ r ≡ (not over && eqb refusal 14) ⌝ }
+    ensures { λ r. ⌜ r ≡ (not over && eqb refusal endsTooEarly) ⌝ }
 {
     if over {
         return false;
     }
-    refusal == 14
+    refusal == ENDS_TOO_EARLY
 }
 
 // The word of a verdict, and `early` where there is none yet.
@@ -55,7 +58,7 @@ pub(crate) fn shown(state: State, ring: &[u8], scored: Scored, used: usize) -> T
     if total.refusal != 0 {
         return Turn::Refused(total.refusal);
     }
-    let word = word_of(book::verdict(b, ring, 30, 3600));
+    let word = word_of(book::verdict(b, ring, setting::WINDOW, setting::AMOUNT));
     let next = State {
         book: b,
         frames: one_more(state.frames),
@@ -73,7 +76,7 @@ pub(crate) fn shown(state: State, ring: &[u8], scored: Scored, used: usize) -> T
 pub(crate) fn counted(state: State, ring: &mut [u8], last: &[u8], image: &[u8]) -> Turn
     ensures { λ r. ⌜ (r ≡ countedOf state (now (ring .entry)) (now (last .entry)) (now (image .entry))) × (now (ring .exit) ≡ countedRing state (now (ring .entry)) (now (last .entry)) (now (image .entry))) ⌝ }
 {
-    let score = score::score(600, 12, last, image);
+    let score = score::score(setting::BOUND, setting::ALLOWANCE, last, image);
     if score.refusal != 0 {
         return Turn::Refused(score.refusal);
     }

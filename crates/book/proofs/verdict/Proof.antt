@@ -1,50 +1,101 @@
--- `book::verdict` meets its contract: a refusal is told by its number, and without one the verdict goes by the figure.
+-- `book::verdict` meets its contract: a refusal comes with its number, and without one the verdict goes by the figure.
 -- Assumes nothing.
 use borrow.Author.Needs.{needs}
-use mathlib.Core.Path.{_≡_, refl, sym, ap, ap₂, _∙_}
+use borrow.Author.Tests.{lt-ltb, le-ltb, eq-eqb, ne-eqb}
+use native.Mathlib.Omega.{arith}
+use mathlib.Core.Bool.{false}
+use mathlib.Core.List.{[], _∷_}
+use mathlib.Core.Path.{_≡_, refl, ap, _∙_}
 use denote.Ref.{now}
-use lib.ListN.{length}
-use Rattle.refusals.proofs.Laws.{refused-keeps, taken-gives}
-use Rattle.book.specs.declared.verdicts.Ruling.the-variants.{Told, Refused}
+use lib.Dec.{eqb}
+use Rattle.refusals.specs.Numbers.{zeroAsked, windowTooLong}
+use Rattle.book.specs.declared.verdicts.Ruling.the-variants.{Told}
 use Rattle.book.specs.Verdict.{verdictOf}
-use Rattle.book.specs.Figure.{figure}
-use Rattle.book.specs.Calls.{verdictRefusal, verdictAnswer}
-use Rattle.book.proofs.Answers.{verdict-known}
+use Rattle.book.specs.Calls.{zeroFault, windowFault, verdictCall}
+use Rattle.book.proofs.JudgedFirst.{JudgedFirst, judged-first}
 use Rattle.book.proofs.verdict.Statement.{statement}
 use Rattle.book.proofs.verdict.Tie as tie
+
+abbrev start : tie.After-usable → tie.Start
+start c = c .before .before .before
+
+judged : (c : tie.After-usable) → JudgedFirst (start c .args .book) (now (start c .args .ring)) (c .usable .result)
+    (zeroFault (start c .args .amount) ∷ zeroFault (start c .args .window) ∷ windowFault (start c .args .book) (start c .args .window) ∷ [])
+    (verdictCall (start c .args .book) (now (start c .args .ring)) (start c .args .window) (start c .args .amount))
+unfolding verdictCall
+judged c = judged-first _ _ _ _ refl (c .before .count .ensures) (c .usable .ensures)
+
+-- once amount and window are passed
+module _ (c : tie.Else3) where
+  abbrev first : tie.Else1
+  first = c .before .before
+
+  abbrev asked : tie.After-usable
+  asked = first .before .before
+
+  some-amount : eqb (start asked .args .amount) 0 ≡ false
+  some-amount = ne-eqb (start asked .args .amount) 0 (c .before .if2 .left)
+
+  some-window : eqb (start asked .args .window) 0 ≡ false
+  some-window = ne-eqb (start asked .args .window) 0 (c .if3 .left)
 
 count-requires : tie.Need-count-requires
 count-requires c κs = search needs
 
-verdict-requires : tie.Need-verdict-requires
-verdict-requires c κs = search needs
+usable-requires : tie.Need-usable-requires
+usable-requires c κs = search needs
 
 returns : tie.Need-returns
-unfolding verdictAnswer
-returns c = let a = c .before .before .before .before .args in
-    let told = c .before .verdict .ensures ∙ ap (λ n. verdictRefusal (a .book) n (a .window) (a .amount)) (c .before .before .count .ensures) in
-    ap Refused told ∙ sym (refused-keeps (verdictRefusal (a .book) (length (now (a .ring))) (a .window) (a .amount)) (Told (verdictOf (a .book .tolerance) (a .amount) (figure (a .book) (now (a .ring)) (a .window)))) (Refused (verdictRefusal (a .book) (length (now (a .ring))) (a .window) (a .amount))) told (c .if1 .taken))
-
-figure-of-requires : tie.Need-figure-of-requires
-figure-of-requires c κs = let a = c .before .before .before .before .args in
-    let told = c .before .verdict .ensures ∙ ap (λ n. verdictRefusal (a .book) n (a .window) (a .amount)) (c .before .before .count .ensures) in
-    let h = verdict-known (a .book) (length (now (a .ring))) (a .window) (a .amount) (sym told ∙ c .if1 .left) in
-    (h .0 .sound, h .3, h .0 .room)
-
-rule-requires : tie.Need-rule-requires
-rule-requires c κs = let a = c .before .before .before .before .before .args in
-    let told = c .before .before .verdict .ensures ∙ ap (λ n. verdictRefusal (a .book) n (a .window) (a .amount)) (c .before .before .before .count .ensures) in
-    let h = verdict-known (a .book) (length (now (a .ring))) (a .window) (a .amount) (sym told ∙ c .before .if1 .left) in
-    h .0 .sound .ranges .tolerance-low
+unfolding verdictCall
+returns c = judged (c .before .before) .refused (c .if1 .taken) .0
 
 returns-2 : tie.Need-returns-2
-unfolding verdictAnswer
-returns-2 c = let a = c .before .before .before .before .before .before .args in
-    let told = c .before .before .before .verdict .ensures ∙ ap (λ n. verdictRefusal (a .book) n (a .window) (a .amount)) (c .before .before .before .before .count .ensures) in
-    rw (c .rule .ensures, c .before .figure-of .ensures)
-    (sym (taken-gives (verdictRefusal (a .book) (length (now (a .ring))) (a .window) (a .amount)) (Told (verdictOf (a .book .tolerance) (a .amount) (figure (a .book) (now (a .ring)) (a .window)))) (Refused (verdictRefusal (a .book) (length (now (a .ring))) (a .window) (a .amount))) told (c .before .before .if1 .left)))
+unfolding verdictCall
+returns-2 c = let p = c .before .before .before in
+    let zero = eq-eqb (start p .args .amount) 0 (c .if2 .taken) in
+    judged p .own-refused (c .before .if1 .left) zeroAsked (rw zero) (λ e. omega arith) .0
+
+returns-3 : tie.Need-returns-3
+unfolding verdictCall
+returns-3 c = let first = c .before .before in
+    let p = first .before .before in
+    let some = ne-eqb (start p .args .amount) 0 (c .before .if2 .left) in
+    let zero = eq-eqb (start p .args .window) 0 (c .if3 .taken) in
+    judged p .own-refused (first .if1 .left) zeroAsked (rw (some, zero)) (λ e. omega arith) .0
+
+returns-4 : tie.Need-returns-4
+unfolding verdictCall
+returns-4 c = let p = c .before .before in
+    let b = asked p in
+    let long = lt-ltb (start b .args .book .kept) (start b .args .window) (omega arith) in
+    judged b .own-refused (first p .if1 .left) windowTooLong (rw (some-amount p, some-window p, long)) (λ e. omega arith) .0
+
+figure-of-requires : tie.Need-figure-of-requires
+figure-of-requires c κs = let p = c .before .before .before in
+    (judged (asked p) .ready (first p .if1 .left), omega arith)
+
+rule-requires : tie.Need-rule-requires
+rule-requires c κs = let p = c .before .before .before .before in
+    judged (asked p) .ready (first p .if1 .left) .usable .sound .ranges .tolerance-low
+
+returns-5 : tie.Need-returns-5
+unfolding verdictCall
+returns-5 c = let p = c .before .before .before .before .before in
+    let a = start (asked p) .args in
+    let short = le-ltb (a .book .kept) (a .window) (omega arith) in
+    ap Told (c .rule .ensures ∙ ap (verdictOf (a .book .tolerance) (a .amount)) (c .before .figure-of .ensures))
+    ∙ judged (asked p) .taken (first p .if1 .left) (rw (some-amount p, some-window p, short)) .0
 
 pub verdict-spec : {M : Type 1} → statement M
 verdict-spec =
     tie.close
-    (tie.spec count-requires verdict-requires returns figure-of-requires rule-requires returns-2)
+    (tie.spec
+    count-requires
+    usable-requires
+    returns
+    returns-2
+    returns-3
+    returns-4
+    figure-of-requires
+    rule-requires
+    returns-5)

@@ -5,15 +5,20 @@ use native.Mathlib.Omega.{arith}
 use lib.ListN.{length}
 use Rattle.frozen.proofs.drain.Statement.{statement}
 use Rattle.frozen.proofs.drain.Tie as tie
-use Rattle.frozen.proofs.drain.Reads as reads
-use Rattle.frozen.proofs.drain.Lts as lts
-use Rattle.frozen.proofs.turn.take.Reads as take-reads
 
 abbrev Inv-loop : tie.InvT-loop
 Inv-loop ring₀ buf end over out₀ next₀ left₀ ring out next left = (length ring ≡ length ring₀) × (length out ≡ length out₀)
 
 abbrev μ-loop : tie.MeasureT-loop
 μ-loop ring₀ buf end over out₀ next₀ left₀ ring out next left = left
+
+-- where a turn is taken: its call, and where the loop began
+module _ (c : tie.After-struct-known Inv-loop μ-loop) where
+  abbrev taken : tie.After-take Inv-loop μ-loop
+  taken = c .before .before .before .before .before
+
+  abbrev loop : tie.At-loop Inv-loop μ-loop
+  loop = taken .before .before .before .before
 
 loop-holds : tie.Need-loop-holds Inv-loop μ-loop
 loop-holds c = (refl, refl)
@@ -22,10 +27,12 @@ take-requires : tie.Need-take-requires Inv-loop μ-loop
 take-requires c κs = tt
 
 same-length : tie.Need-same-length Inv-loop μ-loop
-same-length c = c .before .before .before .before .before .before .take .kept .1 .0 ∙ c .before .before .before .before .before .before .before .before .before .before .loop .inv .0
+same-length c = let p = c .before in
+    taken p .take .kept .1 .0 ∙ loop p .loop .inv .0
 
 same-length-2 : tie.Need-same-length-2 Inv-loop μ-loop
-same-length-2 c = c .before .before .before .before .before .before .take .kept .1 .1 .1 .1 .1 .0 ∙ c .before .before .before .before .before .before .before .before .before .before .loop .inv .1
+same-length-2 c = let p = c .before in
+    taken p .take .kept .1 .1 .1 .1 .1 .0 ∙ loop p .loop .inv .1
 
 returns : tie.Need-returns Inv-loop μ-loop
 returns c = tt
@@ -37,7 +44,8 @@ loop-less : tie.Need-loop-less Inv-loop μ-loop
 loop-less c = omega arith
 
 loop-again : tie.Need-loop-again Inv-loop μ-loop
-loop-again c = (c .before .before .before .before .before .before .take .kept .1 .0 ∙ c .before .before .before .before .before .before .before .before .before .before .loop .inv .0, c .before .before .before .before .before .before .take .kept .1 .1 .1 .1 .1 .0 ∙ c .before .before .before .before .before .before .before .before .before .before .loop .inv .1)
+loop-again c = let p = c .before in
+    (taken p .take .kept .1 .0 ∙ loop p .loop .inv .0, taken p .take .kept .1 .1 .1 .1 .1 .0 ∙ loop p .loop .inv .1)
 
 same-length-3 : tie.Need-same-length-3 Inv-loop μ-loop
 same-length-3 c = c .before .loop .inv .0

@@ -7,7 +7,8 @@ use native.Mathlib.Omega.{arith}
 use denote.Ref.{now}
 use Rattle.image.specs.declared.Numbers.{Numbers}
 use Rattle.image.specs.Part.{cut}
-use Rattle.image.proofs.Chain.{Lies, reading-lies}
+use Rattle.image.specs.Promised.{Lies}
+use Rattle.image.proofs.Chain.{reading-lies}
 use Rattle.image.proofs.raster.Statement.{statement}
 use Rattle.image.proofs.raster.Tie as tie
 

@@ -1,23 +1,18 @@
--- `rows::head` meets its contract: too small a buffer stays as it is, and any other takes the line at its start.
+-- `rows::head` meets its contract: too short a buffer stays as it is, and any other takes the line at its start.
 -- Assumes nothing.
 use borrow.Author.Needs.{needs}
-use Prim.Native.Nat.{ℕ}
-use mathlib.Core.List.{List, [], _∷_, _++_}
-use mathlib.Core.Path.{_≡_, refl, sym, ap, subst, _∙_}
 use native.Mathlib.Omega.{arith}
 use denote.Ref.{now}
-use lib.ListN.{length}
-use borrow.Author.Tests.{lt-ltb, le-ltb}
-use lib.Seq.{sets}
-use Rattle.rows.specs.Row.{lineInto, lineLength, headText}
-use Rattle.rows.proofs.Writing.{line-none, line-written}
+use Rattle.rows.specs.Row.{headText}
+use Rattle.rows.proofs.Writing.{line-refused, line-written}
 use Rattle.rows.proofs.head.Statement.{statement}
 use Rattle.rows.proofs.head.Tie as tie
 
+no-line-requires : tie.Need-no-line-requires
+no-line-requires c κs = search needs
+
 returns : tie.Need-returns
-returns c = let out = now (c .before .before .args .out) in
-    let a = c .before .before .args in
-    line-none out (headText) (c .if1 .taken)
+returns c = line-refused (now (c .before .before .before .args .out)) headText (c .no-line .ensures) (omega arith)
 
 slice-aggregate-text : tie.Need-slice-aggregate-text
 slice-aggregate-text c = search needs
@@ -30,9 +25,9 @@ same-length c = search needs
 
 returns-2 : tie.Need-returns-2
 unfolding headText
-returns-2 c = let out = now (c .before .before .before .before .before .before .before .args .out) in
-    let a = c .before .before .before .before .before .before .before .args in
-    line-written out (headText) (c .before .before .before .before .before .if1 .left) (c .before .before .text .ensures)
+returns-2 c = let text = c .before .before in
+    let else = text .before .before .before in
+    line-written (now (else .before .before .args .out)) headText (else .if1 .left) (text .text .ensures)
 
 pub head-spec : {M : Type 1} → statement M
-head-spec = tie.close (tie.spec returns slice-aggregate-text text-requires same-length returns-2)
+head-spec = tie.close (tie.spec no-line-requires returns slice-aggregate-text text-requires same-length returns-2)

@@ -1,29 +1,48 @@
 -- `score::score` meets its contract: a refusal comes with 0, and without one the two rasters have one size.
 -- Assumes nothing.
 use borrow.Author.Needs.{needs}
-use mathlib.Core.Path.{_≡_, sym, _∙_}
+use Prim.Native.Nat.{ℕ}
+use mathlib.Core.List.{List}
+use mathlib.Core.Path.{_≡_, sym, subst, _∙_}
 use denote.Ref.{now}
+use Rattle.refusals.specs.First.{firstOf}
+use Rattle.refusals.proofs.Calls.{result-refused}
 use Rattle.image.specs.Reading.{numbersOf}
-use Rattle.image.proofs.Promises.{Lies, reading-lies}
-use Rattle.score.specs.Calls.{scoreRefusal}
-use Rattle.score.proofs.Scored.{score-refused, same-size, score-taken}
+use Rattle.image.specs.Promised.{Lies}
+use Rattle.image.proofs.Promises.{reading-lies}
+use Rattle.score.specs.Calls.{scoreFaults, scoreCall}
+use Rattle.score.proofs.Scored.{refusal-is, same-size, score-taken}
 use Rattle.score.proofs.score.Statement.{statement}
 use Rattle.score.proofs.score.Tie as tie
 
-first-lies : (c : tie.After-header) → Lies (now (c .before .before .before .args .first)) (c .header .result)
-first-lies c = rw (c .header .ensures) (reading-lies (now (c .before .before .before .args .first)))
+-- where the refusal is known: the arguments, and where the two rasters lie
+module _ (c : tie.After-refusal) where
+  abbrev start : tie.Start
+  start = c .before .before .before .before .before
 
-second-lies : (c : tie.After-header2) → Lies (now (c .before .before .before .before .args .second)) (c .header2 .result)
-second-lies c = rw (c .header2 .ensures) (reading-lies (now (c .before .before .before .before .args .second)))
+  abbrev bound : ℕ
+  bound = start .args .bound
 
--- the refusal is that of the two readings
-judged : (c : tie.After-refusal) → let a = c .before .before .before .before .before .args in
-    c .refusal .result ≡ scoreRefusal (a .bound) (numbersOf (now (a .first))) (numbersOf (now (a .second)))
-judged c = c .refusal .ensures
-    ∙ λ i. scoreRefusal (c .before .before .before .before .before .args .bound) (c .before .before .header .ensures i) (c .before .header2 .ensures i)
+  abbrev allowance : ℕ
+  allowance = start .args .allowance
 
-taken : (c : tie.Else1) → let a = c .before .before .before .before .before .before .args in
-    scoreRefusal (a .bound) (numbersOf (now (a .first))) (numbersOf (now (a .second))) ≡ 0
+  abbrev first : List ℕ
+  first = now (start .args .first)
+
+  abbrev second : List ℕ
+  second = now (start .args .second)
+
+  first-lies : Lies first (c .before .before .header .result)
+  first-lies = subst (Lies first) (sym (c .before .before .header .ensures)) (reading-lies first)
+
+  second-lies : Lies second (c .before .header2 .result)
+  second-lies = subst (Lies second) (sym (c .before .header2 .ensures)) (reading-lies second)
+
+  -- the refusal is that of the two readings
+  judged : c .refusal .result ≡ firstOf (scoreFaults bound (numbersOf first) (numbersOf second))
+  judged = c .refusal .ensures ∙ λ i. firstOf (scoreFaults bound (c .before .before .header .ensures i) (c .before .header2 .ensures i))
+
+taken : (c : tie.Else1) → let p = c .before in firstOf (scoreFaults (bound p) (numbersOf (first p)) (numbersOf (second p))) ≡ 0
 taken c = sym (judged (c .before)) ∙ c .if1 .left
 
 header-requires : tie.Need-header-requires
@@ -36,43 +55,46 @@ refusal-requires : tie.Need-refusal-requires
 refusal-requires c κs = search needs
 
 returns : tie.Need-returns
-returns c = let a = c .before .before .before .before .before .before .args in
-    score-refused (a .bound) (a .allowance) (now (a .first)) (now (a .second)) (judged (c .before)) (c .if1 .taken)
+unfolding scoreCall
+returns c = let p = c .before in
+    result-refused (scoreCall (bound p) (allowance p) (first p) (second p))
+    (judged p ∙ refusal-is (bound p) (allowance p) (first p) (second p)) (c .if1 .taken)
 
 sub-changed : tie.Need-sub-changed
-sub-changed c = first-lies (c .before .before .before) .order
+sub-changed c = first-lies (c .before) .order
 
 part-changed-start : tie.Need-part-changed-start
-part-changed-start c = let h = first-lies (c .before .before .before) in
+part-changed-start c = let h = first-lies (c .before) in
     search needs
 
 part-changed-end : tie.Need-part-changed-end
-part-changed-end c = let h = first-lies (c .before .before .before) in
+part-changed-end c = let h = first-lies (c .before) in
     search needs
 
 sub-changed-2 : tie.Need-sub-changed-2
-sub-changed-2 c = second-lies (c .before .before .before) .order
+sub-changed-2 c = second-lies (c .before .before) .order
 
 part-changed-start-2 : tie.Need-part-changed-start-2
-part-changed-start-2 c = let h = second-lies (c .before .before .before) in
+part-changed-start-2 c = let h = second-lies (c .before .before) in
     search needs
 
 part-changed-end-2 : tie.Need-part-changed-end-2
-part-changed-end-2 c = let h = second-lies (c .before .before .before) in
+part-changed-end-2 c = let h = second-lies (c .before .before) in
     search needs
 
 changed-requires : tie.Need-changed-requires
-changed-requires c κs = let a = c .before .before .before .before .before .before .before .before .args in
-    rw (c .before .before .before .before .before .header .ensures, c .before .before .before .before .header2 .ensures)
-    (same-size (a .bound) (a .allowance) (now (a .first)) (now (a .second)) (taken (c .before .before)))
+changed-requires c κs = let p = c .before .before .before in
+    rw (p .before .before .header .ensures, p .before .header2 .ensures)
+    (same-size (bound p) (allowance p) (first p) (second p) (taken (c .before .before)))
 
 at-most-requires : tie.Need-at-most-requires
 at-most-requires c κs = search needs
 
 returns-2 : tie.Need-returns-2
-returns-2 c = let a = c .before .before .before .before .before .before .before .before .before .before .args in
-    rw (c .at-most .ensures, c .before .changed .ensures, c .before .before .before .before .before .before .before .header .ensures, c .before .before .before .before .before .before .header2 .ensures)
-    (score-taken (a .bound) (a .allowance) (now (a .first)) (now (a .second)) (taken (c .before .before .before .before)))
+returns-2 c = let e = c .before .before .before .before in
+    let p = e .before in
+    rw (c .at-most .ensures, c .before .changed .ensures, p .before .before .header .ensures, p .before .header2 .ensures)
+    (score-taken (bound p) (allowance p) (first p) (second p) (taken e))
 
 pub score-spec : {M : Type 1} → statement M
 score-spec =

@@ -1,19 +1,11 @@
--- `book::slots::clear` meets its contract: the ring is lent whole, so it promises the clearing.
+-- `book::slots::clear` meets its contract: the ring is lent whole, so that its call clears it.
 -- Assumes nothing.
 use borrow.Author.Needs.{needs}
-use mathlib.Core.Path.{_≡_, refl, sym, ap, ap₂, _∙_}
+use mathlib.Core.Path.{_≡_, sym, ap, _∙_}
 use denote.Ref.{now}
-use Rattle.ring.proofs.Promises.{clear-clears}
-use Rattle.book.specs.Derived.{fieldWidth, slotCount}
-use Rattle.book.proofs.Steps.{ring-lent}
+use Rattle.book.proofs.RingCalls.{ring-cleared}
 use Rattle.book.proofs.slots.clear.Statement.{statement}
 use Rattle.book.proofs.slots.clear.Tie as tie
-
-field-width-requires : tie.Need-field-width-requires
-field-width-requires c κs = search needs
-
-slot-count-requires : tie.Need-slot-count-requires
-slot-count-requires c κs = search needs
 
 index-requires : tie.Need-index-requires
 index-requires c κs = search needs
@@ -28,20 +20,11 @@ same-length : tie.Need-same-length
 same-length c = search needs
 
 returns : tie.Need-returns
-returns c = let a = c .before .before .before .before .before .before .before .before .before .args in
+returns c = let asked = c .before .before .before .before in
+    let s = asked .before .before .before in
     c .before .before .clear .ensures .1
-    ∙ rw (c .before .before .before .before .before .index .ensures, c .before .before .before .before .index2 .ensures, c .before .before .before .before .before .before .before .field-width .ensures, c .before .before .before .before .before .before .slot-count .ensures)
-    (clear-clears (fieldWidth (a .bound) (a .tolerance)) (slotCount (a .bound) (a .length) (a .tolerance)) (now (a .ring))
-    (ring-lent (a .bound) (a .length) (a .tolerance) (now (a .ring)) (c .before .before .before .before .before .before .before .before .before .pre .0) (c .before .before .before .before .before .before .before .before .before .pre .1)))
+    ∙ ring-cleared (s .args .shape .width) (s .args .shape .slots) (now (s .args .ring)) (s .pre) (asked .before .index .ensures) (asked .index2 .ensures)
 
 pub clear-spec : {M : Type 1} → statement M
 clear-spec =
-    tie.close
-    (tie.spec
-    field-width-requires
-    slot-count-requires
-    index-requires
-    index-requires-2
-    clear-requires
-    same-length
-    returns)
+    tie.close (tie.spec index-requires index-requires-2 clear-requires same-length returns)

@@ -1,13 +1,10 @@
--- `book::slots::get` meets its contract: the ring is lent whole, so it promises the slot.
+-- `book::slots::get` meets its contract: the ring is lent whole and has the slot, so that its call reads it.
 -- Assumes nothing.
 use borrow.Author.Needs.{needs}
-use Prim.Native.Nat.{ℕ}
-use mathlib.Core.Path.{_≡_, refl, sym, ap, ap₂, _∙_}
-use native.Mathlib.Omega.{arith}
+use mathlib.Core.Path.{_≡_, sym, ap, _∙_}
 use denote.Ref.{now}
 use Rattle.ring.specs.declared.Answer.{Answer}
-use Rattle.ring.specs.Calls.{readAnswer}
-use Rattle.ring.proofs.Promises.{lent-whole, read-reads}
+use Rattle.book.proofs.RingCalls.{ring-reads}
 use Rattle.book.proofs.slots.get.Statement.{statement}
 use Rattle.book.proofs.slots.get.Tie as tie
 
@@ -24,13 +21,11 @@ read-requires : tie.Need-read-requires
 read-requires c κs = search needs
 
 returns : tie.Need-returns
-returns c = let a = c .before .before .before .before .before .args in
-    let p = c .before .before .before .before .before .pre in
+returns c = let asked = c .before in
+    let s = asked .before .before .before .before in
     ap (λ (r : Answer). r .value) (c .read .ensures)
-    ∙ (λ i. readAnswer (c .before .before .before .index .ensures i) (c .before .before .index2 .ensures i) (now (a .ring)) (c .before .index3 .ensures i) .value)
-    ∙ ap (λ (r : Answer). r .value)
-    (read-reads (a .width) (a .slots) (now (a .ring))
-    (lent-whole (a .width) (a .slots) (now (a .ring)) (p .0) (p .1) (omega arith) (p .2) (p .3)) (a .slot) (p .4))
+    ∙ ring-reads (s .args .shape .width) (s .args .shape .slots) (now (s .args .ring)) (s .pre .0) (asked .before .before .index .ensures) (asked .before .index2 .ensures)
+    (s .args .slot) (s .pre .1) (asked .index3 .ensures)
 
 pub get-spec : {M : Type 1} → statement M
 get-spec =

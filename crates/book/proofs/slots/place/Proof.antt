@@ -1,8 +1,8 @@
--- `book::slots::place` meets its contract: the ring promises where its newest slots are.
+-- `book::slots::place` meets its contract: j back from `next`, or from the end of the ring.
 -- Assumes nothing.
 use borrow.Author.Needs.{needs}
-use mathlib.Core.Path.{sym}
 use native.Mathlib.Omega.{arith}
+use mathlib.Core.Path.{_≡_, sym, ap, _∙_}
 use Rattle.ring.proofs.Promises.{newest-near, newest-far}
 use Rattle.book.proofs.slots.place.Statement.{statement}
 use Rattle.book.proofs.slots.place.Tie as tie
@@ -15,11 +15,11 @@ sub-result c = search needs
 
 returns : tie.Need-returns
 returns c = let a = c .before .args in
-    sym (newest-near (a .slots) (a .head) (a .j) (c .if1 .taken))
+    sym (newest-near (a .slots) (a .next) (a .j) (c .if1 .taken))
 
 returns-2 : tie.Need-returns-2
 returns-2 c = let a = c .before .args in
-    sym (newest-far (a .slots) (a .head) (a .j) (c .if1 .left) (omega arith))
+    sym (newest-far (a .slots) (a .next) (a .j) (c .if1 .left) (omega arith))
 
 pub place-spec : {M : Type 1} → statement M
 place-spec = tie.close (tie.spec add-result sub-result returns returns-2)

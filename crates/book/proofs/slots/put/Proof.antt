@@ -1,17 +1,11 @@
--- `book::slots::put` meets its contract: the ring is lent whole, so it promises the write.
+-- `book::slots::put` meets its contract: the ring is lent whole, has the slot and takes the value, so that its call writes it.
 -- Assumes nothing.
 use borrow.Author.Needs.{needs}
-use mathlib.Core.Path.{_≡_, refl, sym, ap, ap₂, _∙_}
+use mathlib.Core.Path.{_≡_, sym, ap, _∙_}
 use denote.Ref.{now}
-use Rattle.book.proofs.Steps.{ring-writes}
+use Rattle.book.proofs.RingCalls.{ring-writes}
 use Rattle.book.proofs.slots.put.Statement.{statement}
 use Rattle.book.proofs.slots.put.Tie as tie
-
-field-width-requires : tie.Need-field-width-requires
-field-width-requires c κs = search needs
-
-slot-count-requires : tie.Need-slot-count-requires
-slot-count-requires c κs = search needs
 
 index-requires : tie.Need-index-requires
 index-requires c κs = search needs
@@ -29,21 +23,14 @@ same-length : tie.Need-same-length
 same-length c = search needs
 
 returns : tie.Need-returns
-returns c = let b = c .before .before .before .before .before .before .before .before .before .before .args .book in
-    let p = c .before .before .before .before .before .before .before .before .before .before .pre in
+returns c = let asked = c .before .before .before in
+    let ringed = asked .before .before in
+    let s = ringed .before .before .before in
     c .before .before .write .ensures .1
-    ∙ ring-writes b (now (c .before .before .before .before .before .before .before .before .before .before .args .ring)) (p .0) (p .1) (c .before .before .before .before .before .before .before .before .before .before .args .value) (p .2)
-    (c .before .before .before .before .before .before .index .ensures ∙ c .before .before .before .before .before .before .before .before .field-width .ensures) (c .before .before .before .before .before .index2 .ensures ∙ c .before .before .before .before .before .before .before .slot-count .ensures) (c .before .before .before .index3 .ensures)
+    ∙ ring-writes (s .args .shape .width) (s .args .shape .slots) (now (s .args .ring)) (s .pre .0) (ringed .before .index .ensures) (ringed .index2 .ensures)
+    (s .args .slot) (s .pre .1) (asked .index3 .ensures) (s .args .value) (s .pre .2)
 
 pub put-spec : {M : Type 1} → statement M
 put-spec =
     tie.close
-    (tie.spec
-    field-width-requires
-    slot-count-requires
-    index-requires
-    index-requires-2
-    index-requires-3
-    write-requires
-    same-length
-    returns)
+    (tie.spec index-requires index-requires-2 index-requires-3 write-requires same-length returns)

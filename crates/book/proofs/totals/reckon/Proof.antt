@@ -1,29 +1,28 @@
 -- `book::totals::reckon` meets its contract: no step wraps, and where less is taken off than there is the difference is exact.
 -- Assumes nothing.
 use borrow.Author.Needs.{needs}
-use Prim.Native.Nat.{_+_, _-_, _*_, _^_, _≤_}
+use Prim.Native.Nat.{_+_, _*_, _≤_}
 use native.Mathlib.Omega.{arith}
 use native.Mathlib.Nat.{mul-le-mul}
-use Rattle.book.proofs.Bounds.{tolerance-top}
 use Rattle.book.specs.Figure.{reckoned}
-use Rattle.book.proofs.Steps.{carry-top}
+use Rattle.book.proofs.StepsInRange.{carry-top, times-top}
 use Rattle.book.proofs.totals.reckon.Statement.{statement}
 use Rattle.book.proofs.totals.reckon.Tie as tie
 
-product-le : (c : tie.Start) → c .args .book .tolerance * c .args .sum ≤ 2 ^ 57
-product-le c =
-    let b = c .args .book in
-    let d : b .tolerance ≤ 268435456 = omega (arith, tolerance-top (b .bound) (b .length) (b .tolerance) (c .pre .0 .ranges)) in
-    mul-le-mul {n₂ = 268435456} {m₂ = 536870912} d (c .pre .1)
+-- R + D·sum and (D − 1) + e·L·g are far from 2^64
+module _ (c : tie.Start) where
+  whole-top : c .args .book .carry + c .args .book .tolerance * c .args .sum ≤ 536862720 + 268431360 * 536870912
+  whole-top = omega (arith, carry-top (c .args .book) (c .pre .0), times-top (c .args .book) (c .pre .0) (c .args .sum) 536870912 (c .pre .1))
 
-span-le : (c : tie.Start) → c .args .e * c .args .book .bound * c .args .g ≤ 2 ^ 58
-span-le c = mul-le-mul {n₂ = 268435456} {m₂ = 1073741824} (c .pre .2) (c .pre .3)
+  less-top : c .args .book .tolerance + c .args .e * c .args .book .bound * c .args .g ≤ 268431360 + 268435456 * 1073741824
+  less-top =
+      omega (arith, times-top (c .args .book) (c .pre .0) 1 1 (omega arith), mul-le-mul {n₂ = 268435456} {m₂ = 1073741824} (c .pre .2) (c .pre .3))
 
 mul-whole : tie.Need-mul-whole
-mul-whole c = omega (arith, product-le (c .before))
+mul-whole c = omega (arith, whole-top (c .before))
 
 add-whole : tie.Need-add-whole
-add-whole c = omega (arith, product-le (c .before .before), carry-top (c .before .before .args .book) (c .before .before .pre .0))
+add-whole c = omega (arith, whole-top (c .before .before))
 
 sub-less : tie.Need-sub-less
 sub-less c = search needs
@@ -32,11 +31,10 @@ mul-less : tie.Need-mul-less
 mul-less c = search needs
 
 mul-less-2 : tie.Need-mul-less-2
-mul-less-2 c = omega (arith, span-le (c .before .before .before .before))
+mul-less-2 c = omega (arith, less-top (c .before .before .before .before))
 
 add-less : tie.Need-add-less
-add-less c = let b = c .before .before .before .before .args .book in
-    omega (arith, span-le (c .before .before .before .before), tolerance-top (b .bound) (b .length) (b .tolerance) (c .before .before .before .before .pre .0 .ranges))
+add-less c = omega (arith, less-top (c .before .before .before .before))
 
 returns : tie.Need-returns
 unfolding reckoned

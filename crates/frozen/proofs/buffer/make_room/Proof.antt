@@ -3,18 +3,19 @@
 use Prim.Native.Nat.{_+_, _-_, _≤_}
 use mathlib.Core.Path.{_≡_, refl, _∙_}
 use native.Mathlib.Omega.{arith}
-use denote.Ref.{now}
 use lib.ListN.{length, getD, length-set}
 use Rattle.frozen.proofs.buffer.make_room.Statement.{statement}
 use Rattle.frozen.proofs.buffer.make_room.Tie as tie
-use Rattle.frozen.proofs.buffer.make_room.Reads as reads
-use Rattle.frozen.proofs.buffer.make_room.Lts as lts
 
 abbrev Inv-loop : tie.InvT-loop
 Inv-loop buf₀ from at end size i₀ buf i = (i ≤ size) × (length buf ≡ length buf₀)
 
 abbrev μ-loop : tie.MeasureT-loop
 μ-loop buf₀ from at end size i₀ buf i = size - i
+
+-- what the loop was handed
+abbrev start : tie.At-loop Inv-loop μ-loop → tie.Start Inv-loop μ-loop
+start c = c .before .before .before .before .before
 
 returns : tie.Need-returns Inv-loop μ-loop
 returns c = tt
@@ -50,8 +51,9 @@ loop-less : tie.Need-loop-less Inv-loop μ-loop
 loop-less c = omega arith
 
 loop-again : tie.Need-loop-again Inv-loop μ-loop
-loop-again c = let l = c .before .before .loop in
-    (omega arith, length-set (l .buf) (l .i) (getD (l .buf) (c .before .before .before .before .before .before .before .args .from + l .i) 0) ∙ l .inv .1)
+loop-again c = let p = c .before .before in
+    let l = p .loop in
+    (omega arith, length-set (l .buf) (l .i) (getD (l .buf) (start p .args .from + l .i) 0) ∙ l .inv .1)
 
 same-length : tie.Need-same-length Inv-loop μ-loop
 same-length c = c .before .loop .inv .1

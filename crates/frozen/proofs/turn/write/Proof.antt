@@ -6,9 +6,6 @@ use lib.Seq.{length-take-le}
 use borrow.Author.Needs.{needs}
 use Rattle.frozen.proofs.turn.write.Statement.{statement}
 use Rattle.frozen.proofs.turn.write.Tie as tie
-use Rattle.frozen.proofs.turn.write.Reads as reads
-use Rattle.frozen.proofs.turn.write.Lts as lts
-use Rattle.io.proofs.write_all.Reads as write-all-reads
 
 slice-aggregate-write-all : tie.Need-slice-aggregate-write-all
 slice-aggregate-write-all c = let a = c .before .before .before .args in

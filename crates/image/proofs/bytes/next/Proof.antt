@@ -7,7 +7,6 @@ use native.Mathlib.Omega.{arith}
 use native.Mathlib.Numerals.{add-one}
 use denote.Ref.{now}
 use lib.ListN.{getD}
-use Rattle.image.specs.Seen.{endOf}
 use Rattle.image.proofs.Ahead.{ahead-next, ahead-none, end-refuses}
 use Rattle.image.proofs.Steps.{told-found, told-stopped}
 use Rattle.image.proofs.bytes.next.Statement.{statement}
@@ -21,9 +20,8 @@ stopped-requires c κs = search needs
 
 returns : tie.Need-returns
 returns c = let a = c .before .before .before .before .args in
-    let s = now (a .s) in
-    rw (c .stopped .ensures, c .before .end-of .ensures, ahead-none s (a .used) (omega arith))
-    (told-stopped s (record { refusal = endOf s; value = 0; used = 0 }) (end-refuses s))
+    rw (c .stopped .ensures, c .before .end-of .ensures, ahead-none (now (a .s)) (a .used) (omega arith))
+    (told-stopped _ _ (end-refuses (now (a .s))))
 
 end-of-requires-2 : tie.Need-end-of-requires-2
 end-of-requires-2 c κs = search needs
@@ -32,10 +30,10 @@ stopped-requires-2 : tie.Need-stopped-requires-2
 stopped-requires-2 c κs = search needs
 
 returns-2 : tie.Need-returns-2
-returns-2 c = let a = c .before .before .before .before .before .args in
-    let s = now (a .s) in
-    rw (c .stopped2 .ensures, c .before .end-of2 .ensures, ahead-none s (a .used) (omega arith))
-    (told-stopped s (record { refusal = endOf s; value = 0; used = 0 }) (end-refuses s))
+returns-2 c = let p = c .before .before .before in
+    let a = p .before .before .args in
+    rw (c .stopped2 .ensures, c .before .end-of2 .ensures, ahead-none (now (a .s)) (a .used) (omega arith))
+    (told-stopped _ _ (end-refuses (now (a .s))))
 
 shared-slice-read-t8 : tie.Need-shared-slice-read-t8
 shared-slice-read-t8 c = search needs

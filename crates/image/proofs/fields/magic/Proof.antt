@@ -1,134 +1,111 @@
 -- `image::fields::magic` meets its contract: three bytes are taken, and each has to be of its kind.
 -- Assumes nothing.
 use borrow.Author.Needs.{needs}
+use Prim.Native.Nat.{ℕ}
+use mathlib.Core.List.{List}
 use mathlib.Core.Path.{_≡_, sym, _∙_}
-use native.Mathlib.Omega.{arith}
 use borrow.Author.Tests.{eq-eqb, ne-eqb}
 use lib.Dec.{eqb}
 use denote.Ref.{now}
 use Rattle.image.specs.Seen.{ahead, endOf}
 use Rattle.image.specs.Step.{found}
 use Rattle.image.specs.Fields.{white, oneOf, magic}
-use Rattle.image.proofs.Steps.{told-found, told-stopped, next-some, next-none, next-ended, one-none, one-found, one-wrong}
+use Rattle.image.proofs.Steps.{told-found, told-stopped, told-wrong, kind-none, kind-found, kind-wrong}
 use Rattle.image.proofs.fields.magic.Statement.{statement}
 use Rattle.image.proofs.fields.magic.Tie as tie
 
+-- the bytes lent
+abbrev bytes : tie.After-next → List ℕ
+bytes c = now (c .before .before .args .s)
+
 -- where the first byte is `P`
-is-p : (c : tie.Else2) → let s = now (c .before .before .before .before .before .before .args .s) in let n = c .before .before .before .before .next .result in
-    oneOf (eqb 80) (endOf s) (ahead s 0) ≡ found (n .value) (n .used) (ahead s (n .used))
-is-p c = let s = now (c .before .before .before .before .before .before .args .s) in
-    let n = c .before .before .before .before .next in
-    one-found (eqb 80) (endOf s) (next-some s (endOf s) (ahead s 0) (n .result) (n .ensures) (c .before .before .if1 .left))
-    (eq-eqb 80 (n .result .value) (sym (c .if2 .left)))
+module _ (c : tie.Else2) where
+  abbrev first : tie.After-next
+  first = c .before .before .before .before
+
+  abbrev kind : ℕ
+  kind = first .before .before .args .kind
+
+  is-p : let n = first .next .result in oneOf (eqb 80) (endOf (bytes first)) (ahead (bytes first) 0) ≡ found (n .value) (n .used) (ahead (bytes first) (n .used))
+  is-p = kind-found (eqb 80) _ _ (first .next .result) (first .next .ensures) (c .before .before .if1 .left) (eq-eqb _ _ (sym (c .if2 .left)))
 
 -- and the second says the kind
-is-kind : (c : tie.Else4) → let s = now (c .before .before .before .before .before .before .before .before .before .before .before .args .s) in let n = c .before .before .before .before .next2 .result in
-    oneOf (eqb (c .before .before .before .before .before .before .before .before .before .before .before .args .kind)) (endOf s) (ahead s (c .before .before .before .before .before .before .before .before .before .next .result .used)) ≡ found (n .value) (n .used) (ahead s (n .used))
-is-kind c = let s = now (c .before .before .before .before .before .before .before .before .before .before .before .args .s) in
-    let kind = c .before .before .before .before .before .before .before .before .before .before .before .args .kind in
-    let n = c .before .before .before .before .next2 in
-    one-found (eqb kind) (endOf s) (next-some s (endOf s) (ahead s (c .before .before .before .before .before .before .before .before .before .next .result .used)) (n .result) (n .ensures) (c .before .before .if3 .left))
-    (eq-eqb kind (n .result .value) (sym (c .if4 .left)))
+module _ (c : tie.Else4) where
+  abbrev second : tie.After-next2
+  second = c .before .before .before .before
+
+  abbrev lent : List ℕ
+  lent = bytes (first (second .before))
+
+  -- all is up to the third
+  reads : magic (endOf lent) (kind (second .before)) (ahead lent 0) ≡ oneOf white (endOf lent) (ahead lent (second .next2 .result .used))
+  unfolding magic
+  reads = let n = second .next2 in
+      let says = kind-found (eqb (kind (second .before))) _ _ (n .result) (n .ensures) (c .before .before .if3 .left) (eq-eqb _ _ (sym (c .if4 .left))) in
+      rw (is-p (second .before), says)
 
 next-requires : tie.Need-next-requires
 next-requires c κs = search needs
 
 returns : tie.Need-returns
 unfolding magic
-returns c = let s = now (c .before .before .before .before .args .s) in
-    rw (one-none (eqb 80) (endOf s) (next-none s (endOf s) (ahead s (0)) (c .before .before .next .result) (c .before .before .next .ensures) (c .if1 .taken)))
-    (next-ended s (endOf s) (ahead s (0)) (c .before .before .next .result) (c .before .before .next .ensures) (c .if1 .taken))
+returns c = let n = c .before .before .next in
+    rw (kind-none (eqb 80) _ _ (n .result) (n .ensures) (c .if1 .taken)) (told-stopped _ (n .result) (c .if1 .taken))
 
 stopped-requires : tie.Need-stopped-requires
 stopped-requires c κs = search needs
 
 returns-2 : tie.Need-returns-2
 unfolding magic
-returns-2 c = let s = now (c .before .before .before .before .before .before .before .args .s) in
-    let n = c .before .before .before .before .before .next in
-    rw (
-      one-wrong (eqb 80) (endOf s) (next-some s (endOf s) (ahead s 0) (n .result) (n .ensures) (c .before .before .before .if1 .left))
-          (ne-eqb 80 (n .result .value) (λ e. c .before .if2 .taken (sym e))),
-      c .stopped .ensures,
-    )
-    (told-stopped s (record { refusal = 11; value = 0; used = 0 }) (λ e. omega arith))
+returns-2 c = let p = c .before .before .before in
+    let n = p .before .before .next in
+    let other = ne-eqb 80 (n .result .value) (λ e. c .before .if2 .taken (sym e)) in
+    rw (kind-wrong (eqb 80) _ _ (n .result) (n .ensures) (p .if1 .left) other, c .stopped .ensures) (told-wrong _)
 
 next-requires-2 : tie.Need-next-requires-2
 next-requires-2 c κs = search needs
 
 returns-3 : tie.Need-returns-3
 unfolding magic
-returns-3 c = let s = now (c .before .before .before .before .before .before .before .before .before .args .s) in
-    let a = c .before .before .before .before .before .before .before .before .before .args in
-    let n = c .before .before .next2 in
-    let at = c .before .before .before .before .before .before .before .next .result .used in
-    rw (is-p (c .before .before .before), one-none (eqb (a .kind)) (endOf s) (next-none s (endOf s) (ahead s at) (n .result) (n .ensures) (c .if3 .taken)))
-    (next-ended s (endOf s) (ahead s at) (n .result) (n .ensures) (c .if3 .taken))
+returns-3 c = let n = c .before .before .next2 in
+    let p = c .before .before .before in
+    rw (is-p p, kind-none (eqb (kind p)) _ _ (n .result) (n .ensures) (c .if3 .taken)) (told-stopped _ (n .result) (c .if3 .taken))
 
 stopped-requires-2 : tie.Need-stopped-requires-2
 stopped-requires-2 c κs = search needs
 
 returns-4 : tie.Need-returns-4
 unfolding magic
-returns-4 c = let s = now (c .before .before .before .before .before .before .before .before .before .before .before .before .args .s) in
-    let a = c .before .before .before .before .before .before .before .before .before .before .before .before .args in
-    let n = c .before .before .before .before .before .next2 in
-    let at = c .before .before .before .before .before .before .before .before .before .before .next .result .used in
-    rw (
-      is-p (c .before .before .before .before .before .before),
-      one-wrong (eqb (a .kind)) (endOf s) (next-some s (endOf s) (ahead s at) (n .result) (n .ensures) (c .before .before .before .if3 .left))
-          (ne-eqb (a .kind) (n .result .value) (λ e. c .before .if4 .taken (sym e))),
-      c .stopped2 .ensures,
-    )
-    (told-stopped s (record { refusal = 11; value = 0; used = 0 }) (λ e. omega arith))
+returns-4 c = let there = c .before .before .before in
+    let n = there .before .before .next2 in
+    let p = there .before .before .before in
+    let other = ne-eqb (kind p) (n .result .value) (λ e. c .before .if4 .taken (sym e)) in
+    rw (is-p p, kind-wrong (eqb (kind p)) _ _ (n .result) (n .ensures) (there .if3 .left) other, c .stopped2 .ensures) (told-wrong _)
 
 next-requires-3 : tie.Need-next-requires-3
 next-requires-3 c κs = search needs
 
 returns-5 : tie.Need-returns-5
-unfolding magic
-returns-5 c = let s = now (c .before .before .before .before .before .before .before .before .before .before .before .before .before .before .args .s) in
-    let n = c .before .before .next3 in
-    let at = c .before .before .before .before .before .before .before .next2 .result .used in
-    rw (
-      is-p (c .before .before .before .before .before .before .before .before),
-      is-kind (c .before .before .before),
-      one-none white (endOf s) (next-none s (endOf s) (ahead s at) (n .result) (n .ensures) (c .if5 .taken)),
-    )
-    (next-ended s (endOf s) (ahead s at) (n .result) (n .ensures) (c .if5 .taken))
+returns-5 c = let n = c .before .before .next3 in
+    rw (reads (c .before .before .before), kind-none white _ _ (n .result) (n .ensures) (c .if5 .taken)) (told-stopped _ (n .result) (c .if5 .taken))
 
 is-white-requires : tie.Need-is-white-requires
 is-white-requires c κs = search needs
 
 returns-6 : tie.Need-returns-6
-unfolding magic
-returns-6 c = let s = now (c .before .before .before .before .before .before .before .before .before .before .before .before .before .before .before .before .args .s) in
-    let n = c .before .before .before .before .next3 in
-    let at = c .before .before .before .before .before .before .before .before .before .next2 .result .used in
-    rw (
-      is-p (c .before .before .before .before .before .before .before .before .before .before),
-      is-kind (c .before .before .before .before .before),
-      one-found white (endOf s) (next-some s (endOf s) (ahead s at) (n .result) (n .ensures) (c .before .before .if5 .left))
-          (sym (c .before .is-white .ensures) ∙ c .if6 .taken),
-    )
-    (told-found s (n .result) (c .before .before .if5 .left))
+returns-6 c = let there = c .before .before in
+    let n = there .before .before .next3 in
+    let w = sym (c .before .is-white .ensures) ∙ c .if6 .taken in
+    rw (reads (there .before .before .before), kind-found white _ _ (n .result) (n .ensures) (there .if5 .left) w) (told-found _ (n .result) (there .if5 .left))
 
 stopped-requires-3 : tie.Need-stopped-requires-3
 stopped-requires-3 c κs = search needs
 
 returns-7 : tie.Need-returns-7
-unfolding magic
-returns-7 c = let s = now (c .before .before .before .before .before .before .before .before .before .before .before .before .before .before .before .before .before .args .s) in
-    let n = c .before .before .before .before .before .next3 in
-    let at = c .before .before .before .before .before .before .before .before .before .before .next2 .result .used in
-    rw (
-      is-p (c .before .before .before .before .before .before .before .before .before .before .before),
-      is-kind (c .before .before .before .before .before .before),
-      one-wrong white (endOf s) (next-some s (endOf s) (ahead s at) (n .result) (n .ensures) (c .before .before .before .if5 .left))
-          (sym (c .before .before .is-white .ensures) ∙ c .before .if6 .left),
-      c .stopped3 .ensures,
-    )
-    (told-stopped s (record { refusal = 11; value = 0; used = 0 }) (λ e. omega arith))
+returns-7 c = let there = c .before .before .before in
+    let n = there .before .before .next3 in
+    let w = sym (c .before .before .is-white .ensures) ∙ c .before .if6 .left in
+    rw (reads (there .before .before .before), kind-wrong white _ _ (n .result) (n .ensures) (there .if5 .left) w, c .stopped3 .ensures) (told-wrong _)
 
 pub magic-spec : {M : Type 1} → statement M
 magic-spec =

@@ -5,9 +5,9 @@ use mathlib.Core.Path.{_≡_, refl, sym, ap, _∙_}
 use native.Mathlib.Omega.{arith}
 use denote.Ref.{now}
 use lib.ListN.{length}
-use Rattle.image.specs.Seen.{ahead, endOf}
+use Rattle.image.specs.Seen.{ahead}
 use Rattle.image.specs.Fields.{afterWhite}
-use Rattle.image.proofs.Steps.{next-some, next-none, white-none, white-more, white-over}
+use Rattle.image.proofs.Steps.{Taken, next-some, next-none, white-none, white-more, white-over}
 use Rattle.image.proofs.fields.skip_white.Statement.{statement}
 use Rattle.image.proofs.fields.skip_white.Tie as tie
 
@@ -17,11 +17,13 @@ Inv-loop s used at₀ at = afterWhite (ahead s at) ≡ afterWhite (ahead s used)
 abbrev μ-loop : tie.MeasureT-loop
 μ-loop s used at₀ at = length (ahead s at)
 
-there : (c : tie.Else1 Inv-loop μ-loop) → let s = now (c .before .before .before .before .before .args .s) in let n = c .before .before .next .result in
-    ahead s (c .before .before .before .loop .at) ≡ record { byte = n .value; upto = n .used } ∷ ahead s (n .used)
-there c = let s = now (c .before .before .before .before .before .args .s) in
-    let n = c .before .before .next in
-    next-some s (endOf s) (ahead s (c .before .before .before .loop .at)) (n .result) (n .ensures) (c .if1 .left)
+-- a byte is there in this turn
+module _ (c : tie.Else1 Inv-loop μ-loop) where
+  abbrev turn : tie.At-loop Inv-loop μ-loop
+  turn = c .before .before .before
+
+  there : let s = now (turn .before .before .args .s) in Taken s (ahead s (turn .loop .at)) (c .before .before .next .result)
+  there = next-some _ _ _ (c .before .before .next .result) (c .before .before .next .ensures) (c .if1 .left)
 
 loop-holds : tie.Need-loop-holds Inv-loop μ-loop
 loop-holds c = refl
@@ -30,10 +32,8 @@ next-requires : tie.Need-next-requires Inv-loop μ-loop
 next-requires c κs = tt
 
 returns : tie.Need-returns Inv-loop μ-loop
-returns c = let s = now (c .before .before .before .before .before .args .s) in
-    let l = c .before .before .before .loop in
-    let n = c .before .before .next in
-    white-none (next-none s (endOf s) (ahead s (l .at)) (n .result) (n .ensures) (c .if1 .taken)) ∙ l .inv
+returns c = let n = c .before .before .next in
+    white-none (next-none _ _ _ (n .result) (n .ensures) (c .if1 .taken)) ∙ c .before .before .before .loop .inv
 
 is-white-requires : tie.Need-is-white-requires Inv-loop μ-loop
 is-white-requires c κs = tt
@@ -42,10 +42,10 @@ loop-less : tie.Need-loop-less Inv-loop μ-loop
 loop-less c = omega (arith, ap length (there (c .before .before)))
 
 loop-again : tie.Need-loop-again Inv-loop μ-loop
-loop-again c = white-more (there (c .before .before)) (sym (c .before .is-white .ensures) ∙ c .if2 .taken) ∙ c .before .before .before .before .before .loop .inv
+loop-again c = white-more (there (c .before .before)) (sym (c .before .is-white .ensures) ∙ c .if2 .taken) ∙ turn (c .before .before) .loop .inv
 
 returns-2 : tie.Need-returns-2 Inv-loop μ-loop
-returns-2 c = white-over (there (c .before .before)) (sym (c .before .is-white .ensures) ∙ c .if2 .left) ∙ c .before .before .before .before .before .loop .inv
+returns-2 c = white-over (there (c .before .before)) (sym (c .before .is-white .ensures) ∙ c .if2 .left) ∙ turn (c .before .before) .loop .inv
 
 pub skip-white-spec : {M : Type 1} → statement M
 skip-white-spec =

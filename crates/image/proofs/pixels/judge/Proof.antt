@@ -5,8 +5,6 @@ use Prim.Native.Nat.{_*_, _≤_}
 use mathlib.Core.Path.{sym, _∙_}
 use native.Mathlib.Omega.{arith}
 use native.Mathlib.Nat.{mul-le-mul}
-use denote.Ref.{now}
-use Rattle.image.specs.Pixels.{pixelBytes}
 use Rattle.image.proofs.Chain.{raster-over, raster-short, raster-bright, raster-taken, part-bright}
 use Rattle.image.proofs.pixels.judge.Statement.{statement}
 use Rattle.image.proofs.pixels.judge.Tie as tie
@@ -27,17 +25,13 @@ refused-requires : tie.Need-refused-requires
 refused-requires c κs = search needs
 
 returns : tie.Need-returns
-returns c = let a = c .before .before .before .args in
-    let s = now (a .s) in
-    c .refused .ensures ∙ sym (raster-over pixelBytes s (a .width) (a .height) (a .maxval) (a .start) (c .before .if1 .taken))
+returns c = c .refused .ensures ∙ sym (raster-over _ _ _ _ _ _ (c .before .if1 .taken))
 
 refused-requires-2 : tie.Need-refused-requires-2
 refused-requires-2 c κs = search needs
 
 returns-2 : tie.Need-returns-2
-returns-2 c = let a = c .before .before .before .before .args in
-    let s = now (a .s) in
-    c .refused2 .ensures ∙ sym (raster-short pixelBytes s (a .width) (a .height) (a .maxval) (a .start) (c .before .before .if1 .left) (c .before .if2 .taken))
+returns-2 c = c .refused2 .ensures ∙ sym (raster-short _ _ _ _ _ _ (c .before .before .if1 .left) (c .before .if2 .taken))
 
 sub-too-large : tie.Need-sub-too-large
 sub-too-large c = search needs
@@ -55,17 +49,13 @@ refused-requires-3 : tie.Need-refused-requires-3
 refused-requires-3 c κs = search needs
 
 returns-3 : tie.Need-returns-3
-returns-3 c = let a = c .before .before .before .before .before .before .before .args in
-    let s = now (a .s) in
-    c .refused3 .ensures
-    ∙ sym (raster-bright pixelBytes s (a .width) (a .height) (a .maxval) (a .start) (c .before .before .before .before .before .if1 .left) (c .before .before .before .before .if2 .left)
-    (sym (part-bright s (a .width) (a .height) (a .maxval) (a .start) (c .before .before .before .before .if2 .left)) ∙ sym (c .before .before .too-large .ensures) ∙ c .before .if3 .taken))
+returns-3 c = let p = c .before .before .before .before in
+    let bright = sym (part-bright _ _ _ _ _ (p .if2 .left)) ∙ sym (c .before .before .too-large .ensures) ∙ c .before .if3 .taken in
+    c .refused3 .ensures ∙ sym (raster-bright _ _ _ _ _ _ (p .before .if1 .left) (p .if2 .left) bright)
 
 returns-4 : tie.Need-returns-4
-returns-4 c = let a = c .before .before .before .before .before .before .args in
-    let s = now (a .s) in
-    sym (raster-taken pixelBytes s (a .width) (a .height) (a .maxval) (a .start) (c .before .before .before .before .if1 .left) (c .before .before .before .if2 .left)
-    (sym (part-bright s (a .width) (a .height) (a .maxval) (a .start) (c .before .before .before .if2 .left)) ∙ sym (c .before .too-large .ensures) ∙ c .if3 .left))
+returns-4 c = let p = c .before .before .before in
+    sym (raster-taken _ _ _ _ _ _ (p .before .if1 .left) (p .if2 .left) (sym (part-bright _ _ _ _ _ (p .if2 .left)) ∙ sym (c .before .too-large .ensures) ∙ c .if3 .left))
 
 pub judge-spec : {M : Type 1} → statement M
 judge-spec =

@@ -31,11 +31,12 @@ larger-requires : tie.Need-larger-requires
 larger-requires c κs = search needs
 
 returns-2 : tie.Need-returns-2
-returns-2 c = let raster = now (c .before .before .before .before .before .args .raster) in
+returns-2 c = let p = c .before .before .before in
+    let raster = now (p .before .before .args .raster) in
     let half = length raster / 2 in
     let pixel = pixelAt pixelBytes raster in
     let all : half + half + 1 ≡ length raster = omega arith in
-    largest-on pixel (half + half) (c .larger .ensures) (c .before .before .before .largest-of-halves .ensures) (sym (pixel-one raster (half + half)))
+    largest-on pixel (half + half) (c .larger .ensures) (p .largest-of-halves .ensures) (sym (pixel-one raster (half + half)))
     ∙ ap (largest pixel) all
 
 pub largest-of-spec : {M : Type 1} → statement M

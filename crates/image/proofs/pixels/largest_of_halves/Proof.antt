@@ -4,7 +4,6 @@ use Prim.Native.Nat.{_+_, _-_, _≤_, max}
 use mathlib.Core.Path.{_≡_, sym, ap, ap₂, _∙_}
 use native.Mathlib.Omega.{arith}
 use denote.Ref.{now}
-use lib.ListN.{length}
 use Rattle.image.specs.Pixels.{pixelBytes, pixelAt, largest}
 use Rattle.image.proofs.Largest.{pixel-one, largest-none, largest-on, largest-join}
 use Rattle.image.proofs.pixels.largest_of_halves.Statement.{statement}
@@ -44,8 +43,9 @@ loop-less : tie.Need-loop-less Inv-loop μ-loop
 loop-less c = omega arith
 
 loop-again : tie.Need-loop-again Inv-loop μ-loop
-loop-again c = let a = c .before .before .before .before .before .before .before .args in
-    let l = c .before .before .before .before .before .loop in
+loop-again c = let p = c .before .before .before .before in
+    let a = p .before .before .before .args in
+    let l = p .before .loop in
     let raster = now (a .raster) in
     let pixel = pixelAt pixelBytes raster in (
       omega arith,

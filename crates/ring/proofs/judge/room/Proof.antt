@@ -8,9 +8,6 @@ use Rattle.ring.specs.Slot.{ringBytes}
 use Rattle.ring.proofs.judge.room.Statement.{statement}
 use Rattle.ring.proofs.judge.room.Tie as tie
 
-ring-bytes-requires : tie.Need-ring-bytes-requires
-ring-bytes-requires c κs = search needs
-
 returns : tie.Need-returns
 returns c = let a = c .before .before .args in
     let h : a .lent < ringBytes (a .width) (a .slots) = omega arith in
@@ -22,4 +19,4 @@ returns-2 c = let a = c .before .before .args in
     simp (le-ltb _ _ h)
 
 pub room-spec : {M : Type 1} → statement M
-room-spec = tie.close (tie.spec ring-bytes-requires returns returns-2)
+room-spec = tie.close (tie.spec (λ c κs. search needs) returns returns-2)

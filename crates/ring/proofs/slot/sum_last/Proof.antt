@@ -1,6 +1,6 @@
 -- `ring::slot::sum_last` meets its contract: at each slot the sum is that of the slots from it up to the end.
 -- Assumes nothing.
-use Prim.Native.Nat.{_+_, _*_, _-_, _≤_, _<_}
+use Prim.Native.Nat.{_+_, _-_, _≤_, _<_}
 use mathlib.Core.Path.{_≡_, sym, ap, ap₂, _∙_}
 use native.Mathlib.Omega.{arith}
 use denote.Ref.{now}
@@ -23,12 +23,6 @@ loop-holds c = let a = c .before .args in
     let none : 0 ≡ a .end - a .end = omega arith in
     (omega arith, omega arith, sym (sum-none held (a .end) (a .end)) ∙ ap (sumNewest held (a .end) (a .end)) none)
 
-sub-loop : tie.Need-sub-loop Inv-loop μ-loop
-sub-loop c = omega arith
-
-sub-slot : tie.Need-sub-slot Inv-loop μ-loop
-sub-slot c = omega arith
-
 get-requires : tie.Need-get-requires Inv-loop μ-loop
 get-requires c κs = let a = c .before .before .before .args in
     let below : c .before .loop .slot - 1 < a .end = omega arith in
@@ -43,9 +37,6 @@ add-sum c = let a = c .before .before .before .before .args in
       sum-le held 65535 (λ k. field-le (a .width) (now (a .ring)) k (omega arith)) (a .end) (a .end) (a .end - l .slot),
       field-le (a .width) (now (a .ring)) (l .slot - 1) (omega arith),
     )
-
-loop-less : tie.Need-loop-less Inv-loop μ-loop
-loop-less c = omega arith
 
 loop-again : tie.Need-loop-again Inv-loop μ-loop
 loop-again c = let a = c .before .before .before .before .args in
@@ -69,10 +60,10 @@ sum-last-spec =
     Inv-loop
     μ-loop
     loop-holds
-    sub-loop
-    sub-slot
+    (λ c. omega arith)
+    (λ c. omega arith)
     get-requires
     add-sum
-    loop-less
+    (λ c. omega arith)
     loop-again
     returns)

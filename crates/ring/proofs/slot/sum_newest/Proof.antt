@@ -1,9 +1,10 @@
 -- `ring::slot::sum_newest` meets its contract: the newest slots lie below `next`, and where these are too few, at the ring's end.
 -- Assumes nothing.
-use Prim.Native.Nat.{ℕ, _+_, _-_, _≤_, _<_}
+use Prim.Native.Nat.{ℕ, _+_, _-_, _*_, _≤_}
 use mathlib.Core.Path.{_≡_, sym, ap, ap₂, _∙_}
 use native.Mathlib.Omega.{arith}
 use denote.Ref.{now}
+use lib.ListN.{length}
 use Rattle.ring.specs.Slot.{field}
 use Rattle.ring.specs.Newest.{sumNewest}
 use Rattle.ring.proofs.Fields.{field-le, slot-end}
@@ -12,25 +13,19 @@ use borrow.Author.Needs.{needs}
 use Rattle.ring.proofs.slot.sum_newest.Statement.{statement}
 use Rattle.ring.proofs.slot.sum_newest.Tie as tie
 
+-- the slots below `next` lie within the ring
+below-fits : (s : tie.Start) → s .args .next * s .args .width ≤ length (now (s .args .ring)) * 8
+below-fits s = omega (arith, slot-end (s .args .width) (s .pre .4))
+
 sum-last-requires : tie.Need-sum-last-requires
-sum-last-requires c κs = let a = c .before .before .args in
-    let next : a .next < a .slots = c .before .before .pre .4 in
-    (omega arith, omega arith, omega arith, omega (arith, slot-end (a .width) next), omega arith)
+sum-last-requires c κs = (omega arith, omega arith, omega arith, below-fits (c .before .before), omega arith)
 
 returns : tie.Need-returns
 returns c = let a = c .before .before .before .args in
     c .sum-last .ensures ∙ sym (sum-near (field (a .width) (now (a .ring))) (a .slots) (a .next) (a .j) (omega arith))
 
 sum-last-requires-2 : tie.Need-sum-last-requires-2
-sum-last-requires-2 c κs = let a = c .before .before .args in
-    let next : a .next < a .slots = c .before .before .pre .4 in
-    (omega arith, omega arith, omega arith, omega (arith, slot-end (a .width) next), omega arith)
-
-sub-sum-last : tie.Need-sub-sum-last
-sub-sum-last c = search needs
-
-sum-last-requires-3 : tie.Need-sum-last-requires-3
-sum-last-requires-3 c κs = search needs
+sum-last-requires-2 c κs = (omega arith, omega arith, omega arith, below-fits (c .before .before), omega arith)
 
 add-result : tie.Need-add-result
 add-result c = let a = c .before .before .before .before .args in
@@ -59,7 +54,7 @@ sum-newest-spec =
     sum-last-requires
     returns
     sum-last-requires-2
-    sub-sum-last
-    sum-last-requires-3
+    (λ c. search needs)
+    (λ c κs. search needs)
     add-result
     returns-2)

@@ -17,7 +17,8 @@ same-length c = search needs
 
 returns : tie.Need-returns
 unfolding scoreText
-returns c = rw (c .before .before .before .before .enum-told .given .1) (c .before .before .byte .ensures, omega (arith, c .before .before .byte .ensures .moved))
+returns c = let wrote = c .before .before in
+    rw (wrote .before .before .enum-told .given .1) (wrote .byte .ensures, omega (arith, wrote .byte .ensures .moved))
 
 enum-known-scored : tie.Need-enum-known-scored
 enum-known-scored c = search needs
@@ -30,7 +31,8 @@ same-length-2 c = search needs
 
 returns-2 : tie.Need-returns-2
 unfolding scoreText
-returns-2 c = rw (c .before .before .before .before .before .scored .given .1) (c .before .before .field .ensures .0, c .before .before .field .ensures .1)
+returns-2 c = let wrote = c .before .before in
+    rw (wrote .before .before .before .scored .given .1) (wrote .field .ensures .0, wrote .field .ensures .1)
 
 pub score-spec : {M : Type 1} → statement M
 score-spec =

@@ -1,14 +1,13 @@
 -- `rows::put::text` meets its contract: after i turns the first i bytes of the text stand in their places.
 -- Assumes nothing.
-use Prim.Native.Nat.{ℕ, suc, _+_, _-_, _≤_, _<_}
+use Prim.Native.Nat.{ℕ, _+_, _-_, _≤_, _<_}
 use mathlib.Core.Path.{_≡_, refl, sym, ap, _∙_}
-use mathlib.Core.List.{[], _∷_, _++_}
+use mathlib.Core.List.{[], _∷_}
 use native.Mathlib.Numerals.{add-one}
 use native.Mathlib.Omega.{arith}
 use denote.Ref.{now}
 use lib.ListN.{length, take, getD, set, length-set}
 use lib.Seq.{sets, take-suc, take-length, length-take-le}
-use Rattle.rows.specs.Wrote.{Wrote}
 use Rattle.rows.proofs.Writing.{sets-append}
 use Rattle.rows.proofs.put.text.Statement.{statement}
 use Rattle.rows.proofs.put.text.Tie as tie

@@ -19,7 +19,8 @@ same-length c = search needs
 
 returns : tie.Need-returns
 unfolding wordText
-returns c = rw (c .before .before .before .before .before .enum-told .given .1) (c .before .before .text .ensures)
+returns c = let wrote = c .before .before in
+    rw (wrote .before .before .before .enum-told .given .1) (wrote .text .ensures)
 
 enum-told-2 : tie.Need-enum-told-2
 enum-told-2 c = search needs
@@ -35,7 +36,8 @@ same-length-2 c = search needs
 
 returns-2 : tie.Need-returns-2
 unfolding wordText
-returns-2 c = rw (c .before .before .before .before .before .enum-told2 .given .1) (c .before .before .text2 .ensures)
+returns-2 c = let wrote = c .before .before in
+    rw (wrote .before .before .before .enum-told2 .given .1) (wrote .text2 .ensures)
 
 enum-told-3 : tie.Need-enum-told-3
 enum-told-3 c = search needs
@@ -51,7 +53,8 @@ same-length-3 c = search needs
 
 returns-3 : tie.Need-returns-3
 unfolding wordText
-returns-3 c = rw (c .before .before .before .before .before .enum-told3 .given .1) (c .before .before .text3 .ensures)
+returns-3 c = let wrote = c .before .before in
+    rw (wrote .before .before .before .enum-told3 .given .1) (wrote .text3 .ensures)
 
 enum-told-4 : tie.Need-enum-told-4
 enum-told-4 c = search needs
@@ -67,7 +70,8 @@ same-length-4 c = search needs
 
 returns-4 : tie.Need-returns-4
 unfolding wordText
-returns-4 c = rw (c .before .before .before .before .before .enum-told4 .given .1) (c .before .before .text4 .ensures)
+returns-4 c = let wrote = c .before .before in
+    rw (wrote .before .before .before .enum-told4 .given .1) (wrote .text4 .ensures)
 
 pub word-spec : {M : Type 1} → statement M
 word-spec =

@@ -1,6 +1,6 @@
 -- `score::count::changed` meets its contract: before each block the count is that of the positions before it.
 -- Assumes nothing.
-use Prim.Native.Nat.{_+_, _-_, _≤_}
+use Prim.Native.Nat.{ℕ, _+_, _-_, _≤_}
 use mathlib.Core.Path.{_≡_, sym, ap, _∙_}
 use native.Mathlib.Omega.{arith}
 use denote.Ref.{now}
@@ -32,16 +32,21 @@ cast-count : tie.Need-cast-count Inv-loop μ-loop
 cast-count c = omega arith
 
 -- the count with the block's own is that of all positions up to the block's end
-with-block : (c : tie.After-changed-between Inv-loop μ-loop)
-    → c .before .before .before .loop .count + c .changed-between .result
-    ≡ changed (c .before .before .before .before .before .before .args .allowance)
-    (pixelAt pixelBytes (now (c .before .before .before .before .before .before .args .first)))
-    (pixelAt pixelBytes (now (c .before .before .before .before .before .before .args .second))) (c .before .block-end .result)
-with-block c =
-    ap (λ n. n + c .changed-between .result) (c .before .before .before .loop .inv .1) ∙ c .changed-between .ensures
+module _ (c : tie.After-changed-between Inv-loop μ-loop) where
+  abbrev turn : tie.At-loop Inv-loop μ-loop
+  turn = c .before .before .before
+
+  abbrev start : tie.Start Inv-loop μ-loop
+  start = turn .before .before .before
+
+  abbrev changed-to : ℕ → ℕ
+  changed-to = changed (start .args .allowance) (pixelAt pixelBytes (now (start .args .first))) (pixelAt pixelBytes (now (start .args .second)))
+
+  with-block : turn .loop .count + c .changed-between .result ≡ changed-to (c .before .block-end .result)
+  with-block = ap (λ n. n + c .changed-between .result) (turn .loop .inv .1) ∙ c .changed-between .ensures
 
 add-count : tie.Need-add-count Inv-loop μ-loop
-add-count c = let a = c .before .before .before .before .before .before .args in
+add-count c = let a = start c .args in
     omega (
       arith,
       with-block c,
@@ -55,7 +60,7 @@ loop-again : tie.Need-loop-again Inv-loop μ-loop
 loop-again c = (omega arith, with-block c)
 
 returns : tie.Need-returns Inv-loop μ-loop
-returns c = let a = c .before .before .before .before .args in let l = c .before .loop in
+returns c = let t = c .before in let a = t .before .before .before .args in let l = t .loop in
     let all : l .i ≡ length (now (a .first)) = omega arith in
     l .inv .1 ∙ ap (changed (a .allowance) (pixelAt pixelBytes (now (a .first))) (pixelAt pixelBytes (now (a .second)))) all
 

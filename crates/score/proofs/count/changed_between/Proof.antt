@@ -2,7 +2,7 @@
 -- as many as they are.
 -- Assumes nothing.
 use Prim.Native.Nat.{_+_, _-_, _≤_}
-use mathlib.Core.Path.{_≡_, sym, ap, _∙_}
+use mathlib.Core.Path.{_≡_, ap, _∙_}
 use native.Mathlib.Omega.{arith}
 use denote.Ref.{now}
 use Rattle.image.specs.Pixels.{pixelBytes, pixelAt}
@@ -21,8 +21,16 @@ Inv-loop first second allowance from to count₀ i₀ count i =
 abbrev μ-loop : tie.MeasureT-loop
 μ-loop first second allowance from to count₀ i₀ count i = to - i
 
-one : (c : tie.After-moved Inv-loop μ-loop) → c .moved .result ≤ 1
-one c = rw (c .moved .ensures) (moved-le (c .before .before .before .before .before .before .before .args .allowance) _ _)
+-- where a position is judged: the turn of the loop, and what came before it
+module _ (c : tie.After-moved Inv-loop μ-loop) where
+  abbrev turn : tie.At-loop Inv-loop μ-loop
+  turn = c .before .before .before .before
+
+  abbrev start : tie.Start Inv-loop μ-loop
+  start = turn .before .before .before
+
+  one : c .moved .result ≤ 1
+  one = rw (c .moved .ensures) (moved-le (start .args .allowance) _ _)
 
 loop-holds : tie.Need-loop-holds Inv-loop μ-loop
 loop-holds c = (omega arith, omega arith, omega arith)
@@ -46,7 +54,7 @@ loop-less : tie.Need-loop-less Inv-loop μ-loop
 loop-less c = omega arith
 
 loop-again : tie.Need-loop-again Inv-loop μ-loop
-loop-again c = let a = c .before .before .before .before .before .before .before .args in let l = c .before .before .before .before .loop in (
+loop-again c = let a = start c .args in let l = turn c .loop in (
   omega arith,
   omega (arith, one c),
   changed-on (a .allowance) (pixelAt pixelBytes (now (a .first))) (pixelAt pixelBytes (now (a .second))) (a .from) (l .count) (l .i) (c .moved .result) (l .inv .2)
@@ -54,7 +62,7 @@ loop-again c = let a = c .before .before .before .before .before .before .before
 )
 
 returns : tie.Need-returns Inv-loop μ-loop
-returns c = let a = c .before .before .before .before .args in let l = c .before .loop in
+returns c = let t = c .before in let a = t .before .before .before .args in let l = t .loop in
     let all : l .i ≡ a .to = omega arith in
     l .inv .2 ∙ ap (changed (a .allowance) (pixelAt pixelBytes (now (a .first))) (pixelAt pixelBytes (now (a .second)))) all
 

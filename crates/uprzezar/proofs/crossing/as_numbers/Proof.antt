@@ -7,52 +7,17 @@ use Rattle.uprzezar.proofs.crossing.as_numbers.Tie as tie
 enum-known-ruling : tie.Need-enum-known-ruling
 enum-known-ruling c = search needs
 
-enum-known-verdict : tie.Need-enum-known-verdict
-enum-known-verdict c = search needs
-
-told-requires : tie.Need-told-requires
-told-requires c κs = search needs
-
-enum-known-verdict-2 : tie.Need-enum-known-verdict-2
-enum-known-verdict-2 c = search needs
-
-told-requires-2 : tie.Need-told-requires-2
-told-requires-2 c κs = search needs
-
-enum-known-verdict-3 : tie.Need-enum-known-verdict-3
-enum-known-verdict-3 c = search needs
-
-told-requires-3 : tie.Need-told-requires-3
-told-requires-3 c κs = search needs
+verdict-as-numbers-requires : tie.Need-verdict-as-numbers-requires
+verdict-as-numbers-requires c κs = search needs
 
 enum-known-ruling-2 : tie.Need-enum-known-ruling-2
 enum-known-ruling-2 c = search needs
 
 returns : tie.Need-returns
-returns c = rw (c .before .before .before .before .before .ruling .given .1, c .before .before .verdict .given .1) (c .told .ensures)
+returns c = rw (c .before .before .ruling .given .1) (c .verdict-as-numbers .ensures)
 
 returns-2 : tie.Need-returns-2
-returns-2 c = rw (c .before .before .before .before .before .ruling .given .1, c .before .before .verdict2 .given .1) (c .told2 .ensures)
-
-returns-3 : tie.Need-returns-3
-returns-3 c = rw (c .before .before .before .before .before .ruling .given .1, c .before .before .verdict3 .given .1) (c .told3 .ensures)
-
-returns-4 : tie.Need-returns-4
-returns-4 c = rw (c .before .ruling2 .given .1)
+returns-2 c = rw (c .before .ruling2 .given .1)
 
 pub as-numbers-spec : {M : Type 1} → statement M
-as-numbers-spec =
-    tie.close
-    (tie.spec
-    enum-known-ruling
-    enum-known-verdict
-    told-requires
-    enum-known-verdict-2
-    told-requires-2
-    enum-known-verdict-3
-    told-requires-3
-    enum-known-ruling-2
-    returns
-    returns-2
-    returns-3
-    returns-4)
+as-numbers-spec = tie.close (tie.spec enum-known-ruling verdict-as-numbers-requires enum-known-ruling-2 returns returns-2)

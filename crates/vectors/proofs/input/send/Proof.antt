@@ -2,14 +2,12 @@
 -- Assumes nothing.
 use borrow.Author.Needs.{needs}
 use mathlib.Core.Path.{sym}
-use denote.Ref.{now}
 use lib.Seq.{length-take-le}
 use Rattle.vectors.proofs.input.send.Statement.{statement}
 use Rattle.vectors.proofs.input.send.Tie as tie
 
 slice-aggregate-write-all : tie.Need-slice-aggregate-write-all
-slice-aggregate-write-all c = let a = c .before .before .before .args in
-    sym (length-take-le (a .count) (now (a .out)) (c .before .if1 .taken))
+slice-aggregate-write-all c = sym (length-take-le _ _ (search needs))
 
 write-all-requires : tie.Need-write-all-requires
 write-all-requires c κs = search needs

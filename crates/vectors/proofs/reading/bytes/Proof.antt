@@ -2,9 +2,6 @@
 -- Assumes nothing.
 use borrow.Author.Needs.{needs}
 use mathlib.Core.Path.{sym}
-use Prim.Native.Nat.{_≤_, _/_}
-use native.Mathlib.Omega.{arith}
-use lib.ListN.{length}
 use lib.Seq.{length-take-le}
 use Rattle.vectors.proofs.reading.bytes.Statement.{statement}
 use Rattle.vectors.proofs.reading.bytes.Tie as tie
@@ -31,8 +28,7 @@ same-length : tie.Need-same-length
 same-length c = search needs
 
 returns-5 : tie.Need-returns-5
-returns-5 c = let h : length (c .before .before .before .before .before .before .before .before .before .before .before .args .text .now) / 2 ≤ length (c .before .before .decode .last .1 .0) = omega (arith, c .before .before .decode .kept .1 .0) in
-    (h, sym (length-take-le (length (c .before .before .before .before .before .before .before .before .before .before .before .args .text .now) / 2) (c .before .before .decode .last .1 .0) h))
+returns-5 c = (search needs, sym (length-take-le _ _ (search needs)))
 
 pub bytes-spec : {M : Type 1} → statement M
 bytes-spec =

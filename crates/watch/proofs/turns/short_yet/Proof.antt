@@ -1,7 +1,6 @@
 -- `watch::turns::short_yet` meets its contract: where the input is over, nothing more may come.
 -- Assumes nothing.
 use borrow.Author.Needs.{needs}
-use mathlib.Core.Path.{_≡_, refl, sym, ap, subst, _∙_}
 use Rattle.watch.proofs.turns.short_yet.Statement.{statement}
 use Rattle.watch.proofs.turns.short_yet.Tie as tie
 

@@ -1,0 +1,41 @@
+-- WHAT A ROW OF BITS PROMISES. The crates above cite this file and the names of specs/, and look into no definition.
+-- Assumes nothing.
+
+-- of two numbers one is the lower or they are the same
+pub use Rattle.bits.proofs.Parts.{le-or-lt}
+-- A PART OF A ROW. A part of n bits writes a number below 2^n
+pub use Rattle.bits.proofs.Replaced.{part-lt}
+-- a part in which a value is put reads back
+pub use Rattle.bits.proofs.Replaced.{part-back}
+-- every other bit stays
+pub use Rattle.bits.proofs.Replaced.{bit-stays}
+-- so does every part that does not meet it
+pub use Rattle.bits.proofs.Replaced.{part-stays}
+-- and every byte behind it
+pub use Rattle.bits.proofs.Replaced.{byte-stays}
+-- no byte comes or goes
+pub use Rattle.bits.proofs.Replaced.{length-with}
+-- and bytes they are
+pub use Rattle.bits.proofs.Replaced.{bytes-with}
+-- ZEROS. Bytes that are 0 at the start of a row are 0 …
+pub use Rattle.bits.proofs.Zeros.{zero-byte}
+-- … and so is every bit in them
+pub use Rattle.bits.proofs.Zeros.{zero-bit}
+-- and every part in them
+pub use Rattle.bits.proofs.Zeros.{zero-part}
+-- and bytes they are, where the rest are
+pub use Rattle.bits.proofs.Zeros.{bytes-zeros}
+-- WORDS. The word that a few bytes write, and the bytes with a word stored in them
+pub use Rattle.bits.proofs.Words.{wordOf, stored}
+-- a word of one to four bytes is loaded byte by byte
+pub use Rattle.bits.proofs.Words.{word-one, word-two, word-three, word-four}
+-- one of at most three is below 2^24
+pub use Rattle.bits.proofs.Words.{word-lt}
+-- a word of one to three bytes is stored byte by byte
+pub use Rattle.bits.proofs.Words.{store-one, store-two, store-three}
+-- where a part lies in a word, and the word with a value in the part's place
+pub use Rattle.bits.proofs.Through.{Spans, patched}
+-- a part is read from its word
+pub use Rattle.bits.proofs.Through.{read-word}
+-- and put into it
+pub use Rattle.bits.proofs.Through.{write-word}

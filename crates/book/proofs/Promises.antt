@@ -1,0 +1,43 @@
+-- THE BOOK'S PROMISES: all that crates above may cite beside the names of specs/. They look into no definition of the book.
+-- Assumes nothing.
+
+-- CALLS. Opening is taken exactly where L, n and D are in their ranges and the ring has room; what it then gives and leaves
+pub use Rattle.book.proofs.WhenTaken.{open-known, open-taken, open-gives}
+-- an item exactly where the record is a book with its ring and the item is at most L; what it then gives and leaves
+pub use Rattle.book.proofs.WhenTaken.{add-known, add-taken, add-gives}
+-- a total exactly where the window is at most kept; what it then gives
+pub use Rattle.book.proofs.WhenTaken.{total-known, total-taken, total-gives}
+-- a verdict exactly where amount and window are not 0 and the window is at most kept; what it then gives; with a longer window it is 5
+pub use Rattle.book.proofs.WhenTaken.{verdict-known, verdict-taken, verdict-gives, verdict-long}
+-- a refused item hands the record back as it came, and a call that only asks leaves the ring
+pub use Rattle.book.proofs.ComesBack.{add-back, total-asks, far-asks, verdict-asks}
+-- a window of 0 answers 0
+pub use Rattle.book.proofs.Window0.{window-0, total-of-none}
+-- demand 1 and uniqueness of every public call
+pub use Rattle.book.proofs.Demand1.{derive-promised, open-promised, add-promised, total-promised, far-promised, verdict-promised}
+-- a verdict leaves the ring, and tells its number whatever reads it off the answer
+pub use Rattle.book.proofs.Demand1.{open-tells, verdict-leaves, verdict-tells}
+-- HOW FAR BACK. There is a smallest window whose figure reaches v, or none; it is named, or 9 is given; there is one at the most
+pub use Rattle.book.proofs.HowFarNames.{smallest-or-none, smallest-is-named, none-is-9, smallest-unique}
+-- NUMBERS of a book in range: c is 1 to n, a block holds at most D or is one item, the slots cover n
+pub use Rattle.book.proofs.NumbersInRange.{block-low, block-high, block-holds, slots-low, slots-cover}
+-- the ring of a book takes B bytes, and is lent whole
+pub use Rattle.book.proofs.StepsInRange.{bytes-needed, book-lent}
+-- the slots that a window needs: 1 to s, covering it by less than a block too much
+pub use Rattle.book.proofs.StepsInRange.{for-low, for-high, for-covers, for-tight}
+-- the box's own setting takes 30 bytes
+pub use Rattle.book.proofs.BoxSetting.{box-shape}
+-- ADDING in its two cases: the block closes, or it stays open
+pub use Rattle.book.proofs.AddingInTwoCases.{adding-cases}
+-- a closed block's quotient is at most z and fits its slot
+pub use Rattle.book.proofs.StepsInRange.{quotient-le, quotient-in}
+-- opening makes a book, and adding keeps it one; what a closed block leaves of the carry is its remainder by D
+pub use Rattle.book.proofs.StaysABook.{opened-sound, open-sound, closed-sound, closed-carry}
+-- the slot before the next one is the old one, and the t-th block's slot is t modulo the slots
+pub use Rattle.book.proofs.NextSlot.{before-after, slot-after-mod}
+-- THE FIGURE by paper 01's formula, within the open block and beyond it
+pub use Rattle.book.proofs.FigureInTwoCases.{figure-in-open, figure-in-slots}
+-- THE VERDICT by its rule
+pub use Rattle.book.proofs.VerdictRule.{live-by, frozen-by}
+-- of two numbers one is not above the other
+pub use Rattle.book.proofs.RoundedUp.{le-or-lt}

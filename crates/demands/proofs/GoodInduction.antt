@@ -1,0 +1,47 @@
+-- The one induction over good books: what a fresh book has, and what an accepted item keeps, every good book has.
+-- Assumes nothing.
+use Prim.Native.Nat.{ℕ, _≤_}
+use mathlib.Core.List.{List, [], _∷_}
+use mathlib.Core.Logic.{_⊎_, inl, inr}
+use mathlib.Core.Path.{_≡_, refl, sym, ap, _∙_}
+use lib.ListN.{length}
+use Rattle.refusals.specs.Call.{Call, refusalOf, resultOf, leftOf}
+use Rattle.refusals.proofs.Calls.{result-refused, left-refused, result-asked, left-asked}
+use Rattle.ring.specs.Slot.{cleared}
+use Rattle.book.specs.declared.Book.{Book}
+use Rattle.book.specs.declared.Updated.{Updated}
+use Rattle.book.specs.Derived.{fieldWidth, slotCount, bytesNeeded}
+use Rattle.book.specs.Record.{opened}
+use Rattle.book.specs.Sound.{Ranges, Usable}
+use Rattle.book.specs.Adding.{added, addedRing}
+use Rattle.book.proofs.Promises.{open-known, open-gives, add-known, add-gives}
+use Rattle.demands.specs.History.{Upon, OnlyAsks, Good, start, adding, otherwise}
+
+-- a call that is refused or only asks leaves record and ring as they came
+pub nothing-changes : (book : Book) (ring : List ℕ) (call : Call Book (List ℕ)) → Upon book ring call
+    → (refusalOf call ≡ 0 → ⊥) ⊎ OnlyAsks book ring call → (resultOf call ≡ book) × (leftOf call ≡ ring)
+nothing-changes book ring call upon (inl refused) = (
+  sym (result-refused call refl refused) ∙ upon .hands-back (refusalOf call),
+  sym (left-refused call refl refused) ∙ upon .lent-is,
+)
+nothing-changes book ring call upon (inr asks) =
+    (result-asked call book (asks .0) (upon .hands-back), left-asked call ring (asks .1) (upon .lent-is))
+
+module _ (P : Book → List ℕ → List ℕ → Type 0)
+    (fresh : (bound n tolerance : ℕ) (lent : List ℕ) → Ranges bound n tolerance → bytesNeeded bound n tolerance ≤ length lent
+    → P (opened bound n tolerance) (cleared (fieldWidth bound tolerance) (slotCount bound n tolerance) lent) [])
+    (more : (book : Book) (ring items : List ℕ) (item : ℕ) → P book ring items → Usable book (length ring) → item ≤ book .bound
+    → P (added book item) (addedRing book ring item) (item ∷ items)) where
+  pub good-induction : (book : Book) (ring items : List ℕ) → Good book ring items → P book ring items
+  good-induction book ring items (start bound n tolerance lent e) =
+      let known = open-known bound n tolerance lent e in
+      let gives = open-gives bound n tolerance lent e in
+      rw (ap (λ (r : Updated). r .book) (gives .0), gives .1) (fresh bound n tolerance lent (known .0) (known .1))
+  good-induction book ring items (adding old bytes earlier good item e) =
+      let known = add-known old bytes item e in
+      let gives = add-gives old bytes item e in
+      rw (ap (λ (r : Updated). r .book) (gives .0), gives .1)
+      (more old bytes earlier item (good-induction old bytes earlier good) (known .0) (known .1))
+  good-induction book ring items (otherwise old bytes same good call upon idle) =
+      let kept = nothing-changes old bytes call upon idle in
+      rw (kept .0, kept .1) (good-induction old bytes same good)

@@ -1,0 +1,38 @@
+-- The calls of paper 01 that change nothing are calls of a good book's history (ledger 2.2): a refused item, a total, how far back, a verdict.
+-- Each is seen by the record that its caller goes on with: the one that comes back, or, where the result has none, the one that went in.
+-- Assumes nothing.
+use Prim.Native.Nat.{ℕ}
+use mathlib.Core.List.{List}
+use mathlib.Core.Logic.{inl, inr}
+use mathlib.Core.Path.{_≡_, refl}
+use Rattle.refusals.specs.Call.{Call, refusalOf, resultOf, leftOf, seenAs}
+use Rattle.book.specs.declared.Book.{Book}
+use Rattle.book.specs.declared.Updated.{Updated}
+use Rattle.book.specs.Calls.{addCall, totalCall, howFarCall, verdictCall}
+use Rattle.book.proofs.Promises.{add-back, total-asks, far-asks, verdict-asks}
+use Rattle.demands.specs.History.{Upon, OnlyAsks, Good, otherwise}
+
+module _ (book : Book) (ring items : List ℕ) (good : Good book ring items) where
+  -- a call that only asks, whatever it gives
+  asked : {Result : Type 0} (call : Call Result (List ℕ)) → (call .left ≡ ring) × (call .lent ≡ ring)
+      → Good (resultOf (seenAs (λ r. book) call)) (leftOf (seenAs (λ r. book) call)) items
+  asked call same =
+      otherwise book ring items good (seenAs (λ r. book) call) (record { hands-back = λ number. refl; lent-is = same .1 }) (inr (refl, same .0))
+
+  pub after-refused-item : (item : ℕ) → (refusalOf (addCall book ring item) ≡ 0 → ⊥)
+      → Good (resultOf (seenAs (λ (r : Updated). r .book) (addCall book ring item)))
+      (leftOf (seenAs (λ (r : Updated). r .book) (addCall book ring item))) items
+  after-refused-item item refused =
+      let back = add-back book ring item in
+      otherwise book ring items good (seenAs (λ (r : Updated). r .book) (addCall book ring item))
+      (record { hands-back = back .0; lent-is = back .1 }) (inl refused)
+
+  pub after-total : (window : ℕ) → Good (resultOf (seenAs (λ r. book) (totalCall book ring window))) (leftOf (seenAs (λ r. book) (totalCall book ring window))) items
+  after-total window = asked (totalCall book ring window) (total-asks book ring window)
+
+  pub after-how-far : (amount : ℕ) → Good (resultOf (seenAs (λ r. book) (howFarCall book ring amount))) (leftOf (seenAs (λ r. book) (howFarCall book ring amount))) items
+  after-how-far amount = asked (howFarCall book ring amount) (far-asks book ring amount)
+
+  pub after-verdict : (window amount : ℕ)
+      → Good (resultOf (seenAs (λ r. book) (verdictCall book ring window amount))) (leftOf (seenAs (λ r. book) (verdictCall book ring window amount))) items
+  after-verdict window amount = asked (verdictCall book ring window amount) (verdict-asks book ring window amount)

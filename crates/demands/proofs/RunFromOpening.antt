@@ -1,0 +1,276 @@
+-- A run from an opening (ledger 2.4, B.3): an opening begins one, and items that are accepted, and calls that are refused or only ask, go on
+-- with it; it is a good book; and each number of its record and each byte of its ring is known.
+-- Assumes nothing.
+use Prim.Native.Nat.{ℕ, zero, suc, _+_, _-_, _*_, _/_, _%_, _≤_, _<_, _^_, min}
+use native.Mathlib.Nat.{mod-eq-of-lt, div-eq-of-lt, mul-add-mod-self-left, mul-add-div, zero-mod, add-zero}
+use native.Mathlib.Omega.{arith}
+use mathlib.Core.List.{List, [], _∷_}
+use mathlib.Core.Logic.{_⊎_}
+use mathlib.Core.Path.{_≡_, refl, sym, ap, ap₂, subst, _∙_}
+use lib.ListN.{length, getD, drop}
+use Rattle.bits.specs.Row.{bits}
+use Rattle.bits.specs.Bytes.{Bytes}
+use Rattle.refusals.specs.Call.{Call, refusalOf, resultOf, leftOf}
+use Rattle.ring.specs.Slot.{written, cleared}
+use Rattle.ring.specs.Lent.{Lent}
+use Rattle.ring.specs.Newest.{newest}
+use Rattle.ring.proofs.Promises.{cleared-rest, cleared-tail, bytes-cleared, tail-stays, rest-stays-drop, bytes-written}
+use Rattle.book.specs.declared.Book.{Book}
+use Rattle.book.specs.declared.Updated.{Updated}
+use Rattle.book.specs.Derived.{fieldWidth, slotCount, bytesNeeded}
+use Rattle.book.specs.Record.{blockOf, slotsOf, widthOf, bytesOf, heldIn, opened}
+use Rattle.book.specs.Sound.{Ranges, Usable}
+use Rattle.book.specs.Adding.{quotientOf, slotAfter, added, addedRing}
+use Rattle.book.specs.Calls.{openCall, addCall}
+use Rattle.book.proofs.Promises.{block-low, slots-low, book-lent, bytes-needed, open-known, open-gives, add-known, add-taken, add-gives, adding-cases, quotient-in, slot-after-mod}
+use Rattle.demands.specs.History.{Upon, OnlyAsks, Good, start, adding, sumOf, older}
+use Rattle.demands.specs.RunFromOpening.{replayed, replayedRing, UpTo, FromOpening, RecordFollows, RingFollows}
+use Rattle.demands.proofs.Invariant.{Invariant}
+use Rattle.demands.proofs.InvariantKept.{shifted, Moved, opened-keeps, added-keeps}
+use Rattle.demands.proofs.GoodInduction.{nothing-changes}
+use Rattle.demands.proofs.GoodUsable.{good-usable}
+
+-- adding leaves L, n and D
+record SameNumbers (book book′ : Book) : Type 0 where
+  bound-same : book′ .bound ≡ book .bound
+  length-same : book′ .length ≡ book .length
+  tolerance-same : book′ .tolerance ≡ book .tolerance
+
+added-same : (book : Book) (ring : List ℕ) (item : ℕ) → SameNumbers book (added book item)
+added-same book ring item =
+    adding-cases (λ b r. SameNumbers book b) book ring item
+    (λ closes. record { bound-same = refl; length-same = refl; tolerance-same = refl })
+    (λ more. record { bound-same = refl; length-same = refl; tolerance-same = refl })
+
+module _ (bound n tolerance : ℕ) (lent : List ℕ) where
+  -- RUNS. An opening that is taken begins one
+  pub opening-begins : refusalOf (openCall bound n tolerance lent) ≡ 0
+      → FromOpening bound n tolerance lent (resultOf (openCall bound n tolerance lent) .book) (leftOf (openCall bound n tolerance lent)) []
+  unfolding replayed replayedRing
+  opening-begins e =
+      let gives = open-gives bound n tolerance lent e in
+      record { opening-taken = e; items-small = tt; record-is = ap (λ (r : Updated). r .book) (gives .0); ring-is = gives .1 }
+
+  replayed-same : (items : List ℕ) → SameNumbers (opened bound n tolerance) (replayed bound n tolerance items)
+  unfolding replayed
+  replayed-same [] = record { bound-same = refl; length-same = refl; tolerance-same = refl }
+  replayed-same (item ∷ items) =
+      let s = added-same (replayed bound n tolerance items) [] item in
+      let r = replayed-same items in
+      record {
+        bound-same = s .bound-same ∙ r .bound-same;
+        length-same = s .length-same ∙ r .length-same;
+        tolerance-same = s .tolerance-same ∙ r .tolerance-same;
+      }
+
+  module _ (book : Book) (ring items : List ℕ) (run : FromOpening bound n tolerance lent book ring items) where
+    -- an item that is accepted goes on with it
+    pub adding-goes-on : (item : ℕ) → refusalOf (addCall book ring item) ≡ 0
+        → FromOpening bound n tolerance lent (resultOf (addCall book ring item) .book) (leftOf (addCall book ring item)) (item ∷ items)
+    unfolding replayed replayedRing
+    adding-goes-on item e =
+        let gives = add-gives book ring item e in
+        let small : item ≤ bound =
+        subst (λ b. item ≤ b) (ap (λ (b : Book). b .bound) (run .record-is) ∙ replayed-same items .bound-same) (add-known book ring item e .1) in
+        record {
+          opening-taken = run .opening-taken;
+          items-small = (small, run .items-small);
+          record-is = ap (λ (r : Updated). r .book) (gives .0) ∙ ap (λ (b : Book). added b item) (run .record-is);
+          ring-is = gives .1 ∙ ap₂ (λ (b : Book) (r : List ℕ). addedRing b r item) (run .record-is) (run .ring-is);
+        }
+
+    -- and so does a call that is refused or only asks
+    pub otherwise-goes-on : (call : Call Book (List ℕ)) → Upon book ring call → (refusalOf call ≡ 0 → ⊥) ⊎ OnlyAsks book ring call
+        → FromOpening bound n tolerance lent (resultOf call) (leftOf call) items
+    otherwise-goes-on call upon idle =
+        let same = nothing-changes book ring call upon idle in
+        rw (same .0, same .1) run
+
+  -- REPLAYS. Every step of a replay is one that a good book takes
+  module _ (opens : refusalOf (openCall bound n tolerance lent) ≡ 0) where
+    replay-good : (items : List ℕ) → UpTo bound items → Good (replayed bound n tolerance items) (replayedRing bound n tolerance lent items) items
+    unfolding replayed replayedRing
+    replay-good [] small =
+        let gives = open-gives bound n tolerance lent opens in
+        rw (ap (λ (r : Updated). r .book) (gives .0), gives .1) at (start bound n tolerance lent opens)
+    replay-good (item ∷ items) small =
+        let book = replayed bound n tolerance items in
+        let ring = replayedRing bound n tolerance lent items in
+        let good = replay-good items (small .1) in
+        let taken = add-taken book ring item (good-usable book ring items good) (fits items item (small .0)) in
+        let gives = add-gives book ring item taken in
+        rw (ap (λ (r : Updated). r .book) (gives .0), gives .1) at (adding book ring items good item taken)
+      where
+        fits : (items : List ℕ) (item : ℕ) → item ≤ bound → item ≤ replayed bound n tolerance items .bound
+        fits items item h = subst (λ b. item ≤ b) (sym (replayed-same items .bound-same)) h
+
+    -- so that what a fresh book has, and an accepted item keeps, every replay has
+    replay-induction : (P : Book → List ℕ → List ℕ → Type 0)
+        → P (opened bound n tolerance) (cleared (fieldWidth bound tolerance) (slotCount bound n tolerance) lent) []
+        → ((book : Book) (ring items : List ℕ) (item : ℕ) → P book ring items → Usable book (length ring) → item ≤ book .bound
+        → P (added book item) (addedRing book ring item) (item ∷ items))
+        → (items : List ℕ) → UpTo bound items → P (replayed bound n tolerance items) (replayedRing bound n tolerance lent items) items
+    unfolding replayed replayedRing
+    replay-induction P fresh more [] small = fresh
+    replay-induction P fresh more (item ∷ items) small =
+        let book = replayed bound n tolerance items in
+        let ring = replayedRing bound n tolerance lent items in
+        more book ring items item (replay-induction P fresh more items (small .1))
+        (good-usable book ring items (replay-good items (small .1)))
+        (subst (λ b. item ≤ b) (sym (replayed-same items .bound-same)) (small .0))
+
+-- COUNTS, with the number of blocks that are closed
+record Counted (book : Book) (count : ℕ) : Type 0 where
+  blocks : ℕ
+  count-is : count ≡ blockOf book * blocks + book .phase
+  phase-lt : book .phase < blockOf book
+  head-is : book .head ≡ blocks % slotsOf book
+  kept-is : book .kept ≡ min (book .length) count
+
+counted-more : (book : Book) (ring : List ℕ) (count item : ℕ) → Usable book (length ring) → Counted book count → Counted (added book item) (suc count)
+counted-more book ring count item usable h =
+    adding-cases (λ b r. Counted b (suc count)) book ring item
+    (λ closes. record {
+      blocks = h .blocks + 1;
+      count-is = omega (arith, h .count-is);
+      phase-lt = block-low (book .bound) (book .tolerance);
+      head-is =
+          ap (slotAfter (slotsOf book)) (h .head-is)
+          ∙ slot-after-mod (slotsOf book) (h .blocks) (slots-low (book .bound) (book .length) (book .tolerance) (usable .sound .ranges));
+      kept-is = kept-more;
+    })
+    (λ more. record {
+      blocks = h .blocks;
+      count-is = omega (arith, h .count-is);
+      phase-lt = omega (arith, more, h .phase-lt);
+      head-is = h .head-is;
+      kept-is = kept-more;
+    })
+  where
+    kept-more : min (book .length) (book .kept + 1) ≡ min (book .length) (suc count)
+    kept-more = omega (arith, h .kept-is)
+
+-- THE RING behind its slots: the bits after the last one, and the bytes from B on
+record Behind (lent : List ℕ) (book : Book) (ring : List ℕ) : Type 0 where
+  bytes : Bytes ring
+  tail : (i : ℕ) → slotsOf book * widthOf book ≤ i → i < bytesOf book * 8 → getD (bits ring) i 0 ≡ 0
+  rest : drop (bytesOf book) ring ≡ drop (bytesOf book) lent
+
+behind-more : (lent : List ℕ) (book : Book) (ring : List ℕ) (item : ℕ) → Usable book (length ring) → item ≤ book .bound → Behind lent book ring
+    → Behind lent (added book item) (addedRing book ring item)
+behind-more lent book ring item usable small h =
+    adding-cases (λ b r. Behind lent b r) book ring item
+    (λ closes. (let fits : quotientOf book item < 2 ^ widthOf book = quotient-in book (usable .sound) item small closes in
+    let whole = book-lent (book .bound) (book .length) (book .tolerance) (length ring) (usable .sound .ranges) (usable .room) in
+    let head = usable .sound .head-high in
+    let q = quotientOf book item in
+    record {
+      bytes = bytes-written (widthOf book) (slotsOf book) ring whole (book .head) head q fits (h .bytes);
+      tail = λ i low high. tail-stays (widthOf book) (slotsOf book) ring whole (book .head) head q fits i low ∙ h .tail i low high;
+      rest = rw (bytes-needed (book .bound) (book .length) (book .tolerance))
+          (rest-stays-drop (widthOf book) (slotsOf book) ring whole (book .head) head q fits (h .bytes)
+          ∙ rw (bytes-needed (book .bound) (book .length) (book .tolerance)) at (h .rest));
+    }))
+    (λ more. record { bytes = h .bytes; tail = h .tail; rest = h .rest })
+
+-- what had come in before, after one more item
+older-more : (before : ℕ → ℕ) (items : List ℕ) (item : ℕ) → ((i : ℕ) → before i ≡ older i items) → (i : ℕ) → shifted before item i ≡ older i (item ∷ items)
+unfolding older sumOf
+older-more before items item h zero = omega (arith, h 0)
+older-more before items item h (suc i) = h i
+
+older-none : (i : ℕ) → 0 ≡ older i []
+unfolding older sumOf
+older-none zero = refl
+older-none (suc i) = refl
+
+module _ (bound n tolerance : ℕ) (lent : List ℕ) (book : Book) (ring items : List ℕ) (run : FromOpening bound n tolerance lent book ring items) where
+  -- a run is a good book, so that demands 2 and 3 hold of it
+  pub run-good : Good book ring items
+  run-good = rw (run .record-is, run .ring-is) (replay-good bound n tolerance lent (run .opening-taken) items (run .items-small))
+
+  ranges : Ranges bound n tolerance
+  ranges = open-known bound n tolerance lent (run .opening-taken) .0
+
+  follow : (P : Book → List ℕ → List ℕ → Type 0)
+      → P (opened bound n tolerance) (cleared (fieldWidth bound tolerance) (slotCount bound n tolerance) lent) []
+      → ((book : Book) (ring items : List ℕ) (item : ℕ) → P book ring items → Usable book (length ring) → item ≤ book .bound
+      → P (added book item) (addedRing book ring item) (item ∷ items))
+      → P book ring items
+  follow P fresh more =
+      rw (run .record-is, run .ring-is)
+      (replay-induction bound n tolerance lent (run .opening-taken) P fresh more items (run .items-small))
+
+  same : SameNumbers (opened bound n tolerance) book
+  same = rw (run .record-is) (replayed-same bound n tolerance lent items)
+
+  counted : Counted book (length items)
+  counted =
+      follow (λ b r l. Counted b (length l))
+      (record {
+        blocks = 0;
+        count-is = omega arith;
+        phase-lt = block-low bound tolerance;
+        head-is = sym (zero-mod (slotCount bound n tolerance));
+        kept-is = omega arith;
+      })
+      (λ b r l item h usable small. counted-more b r (length l) item usable h)
+
+  moved : Moved book (heldIn book ring) items (λ i. older i items)
+  unfolding opened-keeps
+  moved =
+      follow (λ b r l. Moved b (heldIn b r) l (λ i. older i l))
+      (record { inv = opened-keeps bound n tolerance _ ranges; before-is = older-none })
+      (λ b r l item h usable small.
+      (let m = added-keeps b r l (h .inv) item usable small in
+      record { inv = m .inv; before-is = λ i. m .before-is i ∙ older-more (h .inv .before) l item (h .before-is) i }))
+
+  -- ledger 2.4, B.3: the record …
+  pub record-follows : RecordFollows bound n tolerance book items
+  record-follows =
+      let c : ℕ = blockOf book in
+      let k = counted in
+      let inv = moved .inv in
+      record {
+        bound-is = same .bound-same;
+        length-is = same .length-same;
+        tolerance-is = same .tolerance-same;
+        kept-is = k .kept-is ∙ ap (λ (m : ℕ). min m (length items)) (same .length-same);
+        phase-is =
+            sym
+            (ap (λ (m : ℕ). m % c) (k .count-is)
+            ∙ mul-add-mod-self-left c (k .blocks) (book .phase)
+            ∙ mod-eq-of-lt (k .phase-lt));
+        head-is =
+            k .head-is
+            ∙ ap (λ (m : ℕ). m % slotsOf book)
+            (sym
+            (ap (λ (m : ℕ). m / c) (k .count-is)
+            ∙ mul-add-div {m = c} (block-low (book .bound) (book .tolerance)) (k .blocks) (book .phase)
+            ∙ ap (λ (m : ℕ). k .blocks + m) (div-eq-of-lt (k .phase-lt))
+            ∙ add-zero (k .blocks)));
+        carry-is =
+            rw (sym (same .tolerance-same), sym (moved .before-is (book .phase)), sym (moved .before-is 0)) (inv .carried);
+      }
+
+  -- … and the ring, which was lent as bytes
+  pub ring-follows : Bytes lent → RingFollows bound n tolerance lent book ring items
+  ring-follows bytes =
+      let whole = book-lent bound n tolerance (length lent) ranges (open-known bound n tolerance lent (run .opening-taken) .1) in
+      let b = fieldWidth bound tolerance in
+      let s = slotCount bound n tolerance in
+      let behind : Behind lent book ring =
+      follow (λ b r l. Behind lent b r)
+      (record {
+        bytes = bytes-cleared b s lent whole bytes;
+        tail = λ i low high. cleared-tail b s lent whole i low (rw (bytes-needed bound n tolerance) at high);
+        rest = rw (bytes-needed bound n tolerance) (cleared-rest b s lent whole);
+      })
+      (λ b r l item h usable small. behind-more lent b r item usable small h) in
+      record {
+        block-in-its-slot = λ j h.
+            rw (sym (same .tolerance-same), sym (moved .before-is (book .phase + suc j * blockOf book)), sym (moved .before-is (book .phase + j * blockOf book)))
+            (moved .inv .blocks j h);
+        tail-0 = rw (sym (same .bound-same), sym (same .length-same), sym (same .tolerance-same)) (behind .tail);
+        rest-as-lent = rw (sym (same .bound-same), sym (same .length-same), sym (same .tolerance-same)) (behind .rest);
+      }

@@ -1,0 +1,10 @@
+-- How large a ring can be.
+use Prim.Native.Nat.{ℕ}
+
+-- the most bits of a slot
+abbrev pub widest : ℕ
+widest = 16
+
+-- the most slots
+abbrev pub mostSlots : ℕ
+mostSlots = 4096

@@ -1,0 +1,107 @@
+-- Demand 1 and uniqueness of each exported call. Where the statement is that of the call behind it, so are its theorems: `ring-calls`,
+-- `book-calls`, `image-calls` and `score-calls` say which row it is. `Post` is the statement itself, as it stands at the function.
+-- Assumes nothing.
+use Prim.Native.Nat.{ℕ}
+use mathlib.Core.List.{List}
+use mathlib.Core.Path.{refl, sym, ap, _∙_}
+use contract.Lifetimes.{Lfts}
+use denote.Ref.{now}
+use Rattle.refusals.specs.Call.{seenAs}
+use Rattle.refusals.specs.Demand1.{Promised}
+use Rattle.refusals.proofs.Calls.{seen-promised}
+use Rattle.ring.specs.Calls.{clearCall, readCall, writeCall, sumCall}
+use Rattle.ring.specs.declared.Answer.{Answer}
+use Rattle.ring.proofs.Demand1 as ring-calls
+use Rattle.book.specs.declared.Updated.{Updated}
+use Rattle.book.specs.declared.Figure.{Figure}
+use Rattle.book.specs.declared.Window.{Window}
+use Rattle.book.specs.declared.shape.Shaped.{Shaped}
+use Rattle.book.specs.Shape.{shapeCall}
+use Rattle.book.specs.Calls.{openCall, addCall, totalCall, howFarCall, verdictCall}
+use Rattle.book.proofs.Promises as book-calls
+use Rattle.image.specs.declared.Numbers.{Numbers}
+use Rattle.image.specs.Reading.{headerCall}
+use Rattle.image.proofs.Demand1 as image-calls
+use Rattle.score.specs.Calls.{scoreCall}
+use Rattle.score.specs.declared.Answer as score-answer
+use Rattle.score.proofs.Demand1 as score-calls
+use Rattle.uprzezar.specs.Crossing.{asNumbers, placeIn}
+use Rattle.uprzezar.specs.declared.Ruled.{Ruled}
+use Rattle.uprzezar.specs.declared.Raster.{Raster}
+use Rattle.uprzezar.proofs.of_ring.uprzezar_ring_clear.Reads as clear-reads
+use Rattle.uprzezar.proofs.of_ring.uprzezar_ring_read.Reads as read-reads
+use Rattle.uprzezar.proofs.of_ring.uprzezar_ring_write.Reads as write-reads
+use Rattle.uprzezar.proofs.of_ring.uprzezar_ring_sum.Reads as sum-reads
+use Rattle.uprzezar.proofs.of_book.uprzezar_shape.Reads as shape-reads
+use Rattle.uprzezar.proofs.of_book.uprzezar_open.Reads as open-reads
+use Rattle.uprzezar.proofs.of_book.uprzezar_add.Reads as add-reads
+use Rattle.uprzezar.proofs.of_book.uprzezar_total.Reads as total-reads
+use Rattle.uprzezar.proofs.of_book.uprzezar_far.Reads as far-reads
+use Rattle.uprzezar.proofs.of_book.uprzezar_verdict.Reads as verdict-reads
+use Rattle.uprzezar.proofs.of_images.uprzezar_header.Reads as header-reads
+use Rattle.uprzezar.proofs.of_images.uprzezar_raster.Reads as raster-reads
+use Rattle.uprzezar.proofs.of_images.uprzezar_score.Reads as score-reads
+
+-- THE RING. In `a` stand the arguments in their order, in `e` the same as the call returns
+module _ (κs : Lfts 1) where
+  pub clear-promised : Promised (clear-reads.Post κs) (λ r. r) (λ a e. now (e .1 .1 .0)) (λ a. clearCall (a .0) (a .1 .0) (now (a .1 .1 .0))) (λ (r : ℕ). r)
+  clear-promised = ring-calls.clear-promised κs
+
+  pub read-promised : Promised (read-reads.Post κs) (λ r. r) (λ a e. now (a .1 .1 .0))
+      (λ a. readCall (a .0) (a .1 .0) (now (a .1 .1 .0)) (a .1 .1 .1 .0)) (λ (r : Answer). r .refusal)
+  read-promised = ring-calls.read-promised κs
+
+  pub write-promised : Promised (write-reads.Post κs) (λ r. r) (λ a e. now (e .1 .1 .0))
+      (λ a. writeCall (a .0) (a .1 .0) (now (a .1 .1 .0)) (a .1 .1 .1 .0) (a .1 .1 .1 .1 .0)) (λ (r : ℕ). r)
+  write-promised = ring-calls.write-promised κs
+
+  pub sum-promised : Promised (sum-reads.Post κs) (λ r. r) (λ a e. now (a .1 .1 .0))
+      (λ a. sumCall (a .0) (a .1 .0) (now (a .1 .1 .0)) (a .1 .1 .1 .0) (a .1 .1 .1 .1 .0)) (λ (r : Answer). r .refusal)
+  sum-promised = ring-calls.sum-promised κs
+
+-- THE BOOK: its numbers, for which nothing is lent …
+module _ (κs : Lfts 0) where
+  pub shape-promised : Promised (shape-reads.Post κs) (λ r. r) (λ a e. tt) (λ a. shapeCall (a .0) (a .1 .0) (a .1 .1 .0)) (λ (r : Shaped). r .refusal)
+  shape-promised = book-calls.derive-promised κs
+
+-- … and the calls with a ring; the verdict is the book's verdict seen as numbers
+module _ (κs : Lfts 1) where
+  pub open-promised : Promised (open-reads.Post κs) (λ r. r) (λ a e. now (e .1 .1 .1 .0))
+      (λ a. openCall (a .0) (a .1 .0) (a .1 .1 .0) (now (a .1 .1 .1 .0))) (λ (r : Updated). r .refusal)
+  open-promised = book-calls.open-promised κs
+
+  pub add-promised : Promised (add-reads.Post κs) (λ r. r) (λ a e. now (e .1 .0))
+      (λ a. addCall (a .0) (now (a .1 .0)) (a .1 .1 .0)) (λ (r : Updated). r .refusal)
+  add-promised = book-calls.add-promised κs
+
+  pub total-promised : Promised (total-reads.Post κs) (λ r. r) (λ a e. now (a .1 .0))
+      (λ a. totalCall (a .0) (now (a .1 .0)) (a .1 .1 .0)) (λ (r : Figure). r .refusal)
+  total-promised = book-calls.total-promised κs
+
+  pub far-promised : Promised (far-reads.Post κs) (λ r. r) (λ a e. now (a .1 .0))
+      (λ a. howFarCall (a .0) (now (a .1 .0)) (a .1 .1 .0)) (λ (r : Window). r .refusal)
+  far-promised = book-calls.far-promised κs
+
+  pub verdict-promised : Promised (verdict-reads.Post κs) (λ r. r) (λ a e. now (a .1 .0))
+      (λ a. seenAs asNumbers (verdictCall (a .0) (now (a .1 .0)) (a .1 .1 .0) (a .1 .1 .1 .0))) (λ (r : Ruled). r .refusal)
+  verdict-promised =
+      seen-promised _ _ _ asNumbers (λ a. verdictCall (a .0) (now (a .1 .0)) (a .1 .1 .0) (a .1 .1 .1 .0))
+      (λ a r e p. (p, book-calls.verdict-leaves _ _ _ _)) _ (λ a. book-calls.verdict-tells _ _ _ _ (λ verdict. refl) (λ number. refl))
+
+-- IMAGES. The raster's place is the header's answer seen in another form
+module _ (κs : Lfts 1) where
+  pub header-promised : Promised (header-reads.Post κs) (λ r. r) (λ a e. now (a .0)) (λ a. headerCall (now (a .0))) (λ (r : Numbers). r .refusal)
+  header-promised = image-calls.header-promised κs
+
+  pub raster-promised : Promised (raster-reads.Post κs) (λ r. r) (λ a e. now (a .0)) (λ a. seenAs placeIn (headerCall (now (a .0))))
+      (λ (r : Raster). r .refusal)
+  raster-promised =
+      seen-promised _ _ _ placeIn (λ a. headerCall (now (a .0)))
+      (λ a r e p. (p ∙ ap placeIn (sym (image-calls.header-result (now (a .0)))), image-calls.header-leaves (now (a .0)))) _
+      (λ a. image-calls.header-tells (now (a .0)))
+
+-- THE SCORE
+module _ (κs : Lfts 2) where
+  pub score-promised : Promised {Lent = List ℕ × List ℕ} (score-reads.Post κs) (λ r. r) (λ a e. (now (a .1 .1 .0), now (a .1 .1 .1 .0)))
+      (λ a. scoreCall (a .0) (a .1 .0) (now (a .1 .1 .0)) (now (a .1 .1 .1 .0))) (λ (r : score-answer.Answer). r .refusal)
+  score-promised = score-calls.score-promised κs
