@@ -4,6 +4,7 @@ use Prim.Native.Nat.{ℕ, _+_, _-_, _*_, _/_, _^_, _≤_, _<_}
 use native.Mathlib.Nat.{le-trans, le-div-iff-mul-le, div-mul-le-self, mul-le-mul-right, mul-le-mul}
 use native.Mathlib.Omega.{arith}
 use mathlib.Core.List.{List}
+use mathlib.Core.Logic.{_⊎_, inl, inr}
 use mathlib.Core.Path.{_≡_, refl, sym, ap}
 use lib.ListN.{length}
 use lib.Pow.{pow-mono}
@@ -19,7 +20,7 @@ use Rattle.book.specs.Sound.{Ranges, Sound}
 use Rattle.book.specs.Judged.{Ready}
 use Rattle.book.specs.Figure.{slotsFor}
 use Rattle.book.proofs.RoundedUp.{ceil-covers, ceil-tight, ceil-le, ceil-low}
-use Rattle.book.proofs.NumbersInRange.{block-low, block-high, block-top, tolerance-top, slots-low, slots-high, slots-cover, width-low, width-high, quotient-fits}
+use Rattle.book.proofs.NumbersInRange.{block-holds, block-low, block-high, block-top, tolerance-top, slots-low, slots-high, slots-cover, width-low, width-high, quotient-fits}
 
 -- B is the bytes that a ring of s slots of b bits takes
 pub bytes-needed : (bound n tolerance : ℕ) → bytesNeeded bound n tolerance ≡ ringBytes (fieldWidth bound tolerance) (slotCount bound n tolerance)
@@ -84,6 +85,17 @@ module _ (book : Book) (sound : Sound book) where
         tolerance-top (book .bound) (book .length) (book .tolerance) r,
         span-top (book .phase) (omega (arith, sound .phase-high)),
       )
+
+  -- and R is less than twice D: the open block lacks an item, and a block holds at most D or is one item
+  pub carry-low : book .carry < 2 * book .tolerance
+  carry-low = by (block-holds (book .bound) (book .length) (book .tolerance) r)
+    where
+      by : (blockOf book * book .bound ≤ book .tolerance) ⊎ ((blockOf book ≡ 1) × (book .tolerance < book .bound)) → book .carry < 2 * book .tolerance
+      by (inl small) =
+          omega (arith, sound .carry-high, r .bound-low, r .tolerance-low, small, mul-le-mul-right (book .bound) (sound .phase-high))
+      by (inr one) =
+          let none : book .phase ≡ 0 = omega (arith, one .0, sound .phase-high) in
+          omega (arith, sound .carry-high, r .tolerance-low, ap (λ (p : ℕ). p * book .bound) none)
 
   -- a block that closes leaves a quotient of at most z
   pub quotient-le : (item : ℕ) → item ≤ book .bound → book .phase + 1 ≡ blockOf book

@@ -9,7 +9,6 @@ ghost use Rattle.book.specs.HowFar.{howFarBack};
 ghost use Rattle.book.specs.Stops.{Stopped, furthest};
 use crate::Book;
 use crate::shape::Shape;
-use crate::shape::ceil_div;
 use crate::slots;
 
 // Where the walk stops: behind `blocks` blocks. `total` is the carry with D times their slots, `quotient` that of the oldest.
@@ -31,17 +30,25 @@ fn end_figure(tolerance: u64, total: u64) -> u64
     }
 }
 
-// Walks back over the blocks that are kept, each slot once, to the first whose end reaches the amount.
+// floor(R/D) without a division: D − 1 and the open block's items are less than twice D.
+fn open_quotient(book: Book) -> u64
+    requires { ⌜ Sound book ⌝ }
+    ensures { λ r. ⌜ r ≡ book .carry / book .tolerance ⌝ }
+{
+    if book.carry < book.tolerance { 0 } else { 1 }
+}
+
+// Walks back over the blocks that are kept, each slot once, to the first whose end reaches the amount. `behind` items are walked over.
 fn walk(book: Book, shape: Shape, ring: &[u8], amount: u64) -> Stop
     requires { ⌜ Ready book shape (length (now ring)) ⌝ }
     ensures { λ r. ⌜ Stopped book (heldIn book (now (ring .entry))) amount r ⌝ }
 {
-    let most = ceil_div(book.kept - book.phase, shape.block);
     let mut slot = book.head;
     let mut blocks = 0;
     let mut total = book.carry;
-    let mut quotient = book.carry / book.tolerance;
-    while blocks < most {
+    let mut quotient = open_quotient(book);
+    let mut behind = book.phase;
+    while behind < book.kept {
         if amount <= end_figure(book.tolerance, total) {
             return Stop {
                 blocks,
@@ -53,6 +60,7 @@ fn walk(book: Book, shape: Shape, ring: &[u8], amount: u64) -> Stop
         quotient = slots::get(shape, ring, slot);
         total += book.tolerance * quotient;
         blocks += 1;
+        behind += shape.block;
     }
     Stop {
         blocks,
