@@ -4,27 +4,28 @@
 -- `raster-refused`.
 -- Assumes nothing.
 use Prim.Native.Nat.{ℕ, suc, _+_, _-_}
-use mathlib.Core.List.{List, []}
+use mathlib.Core.List.{List, [], _++_}
 use mathlib.Core.Path.{_≡_, refl, sym, ap, _∙_}
-use mathlib.Core.Logic.{⊎-elim}
 use native.Mathlib.Omega.{arith}
 use contract.Lifetimes.{Lfts}
 use denote.Ref.{RefT, ptr, now}
-use Rattle.refusals.specs.First.{firstOf}
+use Rattle.refusals.specs.First.{Fault}
 use Rattle.refusals.specs.Call.{resultOf, leftOf}
 use Rattle.refusals.specs.Demand1.{NoneHolds, FirstThatHolds, Tells, Settles, Promised}
-use Rattle.refusals.proofs.Calls.{asks-leaves, promised, settled, result-cases, passed-on-numbered, passed-on-none, passed-on-alone, written-out, first-holds, nothing-holds}
+use Rattle.refusals.proofs.Calls.{asks-leaves, promised, settled, result-cases, passed-on-numbered, passed-on-none, passed-on-alone}
+use Rattle.refusals.proofs.Calls.{written-out, first-holds, nothing-holds}
 use Rattle.image.specs.declared.Numbers.{Numbers}
-use Rattle.image.specs.Pixels.{pixelBytes}
-use Rattle.image.specs.Reading.{refusedWith, rasterFaults, numbersOf, headerCall}
+use Rattle.image.specs.Kinds.{Kind, pgm}
+use Rattle.image.specs.Reading.{Reading, refusedWith, sizeFaults, pixelFaults, rasterRefusal, named, numbersOf, headerCall}
 use Rattle.image.specs.Part.{Part, partOf, cut, rasterOf, emptyPart, rasterCall}
-use Rattle.image.proofs.Chain.{reading-lies}
+use Rattle.image.proofs.ReadingLies.{refused-reading}
 use Rattle.image.proofs.header.Reads as header-reads
 use Rattle.image.proofs.raster.Reads as raster-reads
 
 -- ledger 1.3: a refused reading has nothing but its refusal …
 pub refused-all-zero : (s : List ℕ) → (numbersOf s .refusal ≡ 0 → ⊥) → numbersOf s ≡ refusedWith (numbersOf s .refusal)
-refused-all-zero s ne = ⊎-elim (λ zeros. zeros) (λ taken. absurd (ne (taken .0))) (reading-lies s .shape)
+unfolding numbersOf
+refused-all-zero s ne = ap (λ (r : Reading). named r) (refused-reading pgm s ne)
 
 -- … and its raster is the empty part where the slice starts
 pub raster-refused : (s : RefT (List ℕ)) → (numbersOf (now s) .refusal ≡ 0 → ⊥) → rasterOf s ≡ emptyPart s
@@ -77,16 +78,17 @@ module _ (κs : Lfts 1) where
       settled (raster-reads.Post κs) partOf (λ a e. now (a .0)) (λ a. rasterCall (a .0))
       (λ a r e p. (p ∙ sym (raster-result (a .0)), asks-leaves (rasterCall (a .0)) refl))
 
--- ledger 1.2: of the raster's faults the first that holds gives the refusal (those of the header come in the order of its bytes)
-module _ (s : List ℕ) (width height maxval start : ℕ) where
-  pub raster-first : (refusal : ℕ) → firstOf (rasterFaults pixelBytes s width height maxval start) ≡ suc refusal
-      → FirstThatHolds (rasterFaults pixelBytes s width height maxval start) (suc refusal)
-  raster-first refusal e =
-      let faults = rasterFaults pixelBytes s width height maxval start in
-      first-holds faults refusal (written-out faults tt) e
+-- ledger 1.2: of the raster's faults, in an image of any kind, the first that holds gives the refusal (those of the header come in the order
+-- of its bytes)
+module _ (kind : Kind) (s numbers : List ℕ) (start : ℕ) where
+  abbrev faults : List Fault
+  faults = sizeFaults kind s numbers start ++ pixelFaults kind s numbers start
 
-  pub raster-none : firstOf (rasterFaults pixelBytes s width height maxval start) ≡ 0
-      → NoneHolds (rasterFaults pixelBytes s width height maxval start)
-  raster-none e =
-      let faults = rasterFaults pixelBytes s width height maxval start in
-      nothing-holds faults (written-out faults tt) e
+  pub raster-first : (refusal : ℕ) → rasterRefusal kind s numbers start ≡ suc refusal
+      → FirstThatHolds (sizeFaults kind s numbers start ++ pixelFaults kind s numbers start) (suc refusal)
+  unfolding rasterRefusal
+  raster-first refusal e = first-holds faults refusal (written-out faults tt) e
+
+  pub raster-none : rasterRefusal kind s numbers start ≡ 0 → NoneHolds (sizeFaults kind s numbers start ++ pixelFaults kind s numbers start)
+  unfolding rasterRefusal
+  raster-none e = nothing-holds faults (written-out faults tt) e

@@ -1,47 +1,38 @@
--- What crates above may rely on, beside the definitions of specs/: the ranges of an accepted image's numbers, where its raster lies
--- and how many bytes it has, and that an answer stays when more bytes come.
+-- What crates above may rely on, beside the definitions of specs/: what an accepted image is, where its raster lies, that each of its bytes
+-- is a pixel, and that an answer stays when more bytes come.
 -- Assumes nothing.
-use Prim.Native.Nat.{ℕ, _+_, _*_, _-_, _≤_}
+use Prim.Native.Nat.{ℕ, _*_, _-_, _≤_, _<_}
 use mathlib.Core.List.{List}
-use mathlib.Core.Path.{_≡_, sym, ap, _∙_}
-use mathlib.Core.Logic.{⊎-elim}
+use mathlib.Core.Path.{_≡_, _∙_}
 use native.Mathlib.Omega.{arith}
-use lib.ListN.{length, drop, length-drop}
+use native.Mathlib.Nat.{mul-one}
+use lib.ListN.{length, drop, getD, length-drop}
 use lib.Seq.{length-take-le}
-use Rattle.image.specs.declared.Numbers.{Numbers}
 use Rattle.image.specs.Seen.{limit}
-use Rattle.image.specs.Pixels.{pixelBytes, rasterBytes}
-use Rattle.image.specs.Reading.{numbersOf, rasterIn}
-use Rattle.image.specs.Promised.{InRange}
-use Rattle.image.proofs.Exact.{accepted-is-pgm}
-pub use Rattle.image.proofs.Chain.{reading-lies}
-pub use Rattle.image.proofs.Largest.{pixel-one}
+use Rattle.image.specs.Kinds.{pgm}
+use Rattle.image.specs.Format.{AllPass}
+use Rattle.image.specs.Reading.{readingOf, numbersOf, rasterIn, positionsOf, pixelOf}
+use Rattle.image.proofs.HeadedSlices.{headed-some}
+use Rattle.image.proofs.LargestPixel.{pixel-one}
+use Rattle.image.proofs.ExactReading.{image-headed, image-used}
+pub use Rattle.image.proofs.ReadingLies.{reading-lies}
 pub use Rattle.image.proofs.Demand1.{refused-all-zero, header-result}
-pub use Rattle.image.proofs.Refuses.{refusal-range, waits-short}
-pub use Rattle.image.proofs.Prefix.{prefix-law, accepted-stays}
-pub use Rattle.image.proofs.Decided.{decided}
+pub use Rattle.image.proofs.RefusalRange.{refusal-range, waits-short}
+pub use Rattle.image.proofs.ExactReading.{accepted-is-pgm, pgm-is-accepted, pgm-pixels}
+pub use Rattle.image.proofs.FirstFaultDecides.{pgm-first-fault, pgm-fault-refused}
+pub use Rattle.image.proofs.PrefixLaw.{prefix-law, accepted-stays}
 
--- the numbers of an accepted image are in range
-pub accepted-range : (s : List ℕ) → numbersOf s .refusal ≡ 0 → InRange (numbersOf s)
-accepted-range s e =
-    let n = accepted-is-pgm s e .numbers in
-    record {
-      width-low = n .numeral₁ .low;
-      width-high = n .numeral₁ .high;
-      height-low = n .numeral₂ .low;
-      height-high = n .numeral₂ .high;
-      maxval-low = n .numeral₃ .low;
-      maxval-high = n .numeral₃ .high;
-    }
+module _ (s : List ℕ) (taken : numbersOf s .refusal ≡ 0) where
+  -- the numbers of an accepted image pass their tests
+  pub accepted-range : AllPass (pgm .tests) (readingOf pgm s .numbers)
+  accepted-range = accepted-is-pgm s taken .head .header .passes
 
--- the bytes used are those of the header and of the raster
-pub reading-sized : (s : List ℕ) → numbersOf s .refusal ≡ 0
-    → numbersOf s .used ≡ numbersOf s .start + rasterBytes pixelBytes (numbersOf s .width) (numbersOf s .height)
-reading-sized s e =
-    ⊎-elim
-    (λ zeros. ap (λ (n : Numbers). n .used) zeros
-    ∙ sym (ap (λ (n : Numbers). n .start + rasterBytes pixelBytes (n .width) (n .height)) zeros))
-    (λ taken. taken .1) (reading-lies s .shape)
+  -- it takes a byte at least
+  pub used-some : 0 < numbersOf s .used
+  unfolding numbersOf
+  used-some =
+      let p = accepted-is-pgm s taken in
+      omega (arith, headed-some pgm s _ _ (image-headed pgm s p), reading-lies s .order)
 
 -- the raster lies in the slice whole …
 raster-fits : (s : List ℕ) → length (rasterIn s) ≡ numbersOf s .used - numbersOf s .start
@@ -51,9 +42,23 @@ raster-fits s =
     let fits : n .used - n .start ≤ length (drop (n .start) s) = rw (length-drop (n .start) s) (omega (arith, lies .order, lies .there)) in
     length-take-le (n .used - n .start) (drop (n .start) s) fits
 
--- … with one byte for each pixel, and no more bytes than an image may have
-pub raster-length : (s : List ℕ) → numbersOf s .refusal ≡ 0 → length (rasterIn s) ≡ numbersOf s .width * numbersOf s .height
-raster-length s e = raster-fits s ∙ omega (arith, reading-lies s .order, reading-sized s e)
-
+-- … and has no more bytes than an image may have
 pub raster-within : (s : List ℕ) → length (rasterIn s) ≤ limit
 raster-within s = omega (arith, raster-fits s, reading-lies s .within)
+
+-- images of one width and height have as many positions
+pub same-positions : (first second : List ℕ) → numbersOf first .width ≡ numbersOf second .width
+    → numbersOf first .height ≡ numbersOf second .height → positionsOf first ≡ positionsOf second
+unfolding positionsOf
+same-positions first second width height = λ i. width i * height i
+
+-- one byte for each position, which is its pixel
+pub raster-length : (s : List ℕ) → numbersOf s .refusal ≡ 0 → length (rasterIn s) ≡ positionsOf s
+unfolding positionsOf numbersOf pgm
+raster-length s taken =
+    let p = accepted-is-pgm s taken in
+    raster-fits s ∙ omega (arith, image-used pgm s p, mul-one (numbersOf s .width * numbersOf s .height))
+
+pub pixel-byte : (s : List ℕ) (position : ℕ) → pixelOf s position ≡ getD (rasterIn s) position 0
+unfolding pixelOf
+pixel-byte s position = pixel-one (rasterIn s) position

@@ -1,121 +1,123 @@
--- A header written from numbers in range, with a raster behind it, is read back as those numbers.
+-- A header written from numbers that pass a kind's tests, with a raster behind it, is an image of that kind, and is read back as those
+-- numbers.
 -- Assumes nothing.
-use Prim.Native.Nat.{ℕ, zero, suc, _+_, _*_, _-_, _/_, _%_, _^_, _≤_, _<_}
-use mathlib.Core.Bool.{Bool, true, false, cond}
-use mathlib.Core.List.{List, [], _∷_, _++_}
-use mathlib.Core.Path.{_≡_, refl, ap, _∙_}
+use Prim.Native.Nat.{ℕ, _+_, _≤_, _<_}
+use native.Mathlib.Nat.{zero-add}
 use native.Mathlib.Omega.{arith}
-use native.Mathlib.Nat.{pow-suc, div-lt-iff-lt-mul}
-use borrow.Author.Tests.{le-leb, ltb-true}
-use lib.Dec.{ltb}
-use lib.ListN.{length, length-append}
+use mathlib.Core.Bool.{true, false}
+use mathlib.Core.List.{List, [], _∷_, _++_}
+use mathlib.Core.Path.{_≡_, refl, sym, ap, subst, _∙_}
+use lib.ListN.{length}
+use Rattle.decimals.specs.Decimal.{digit, AllDigits, decimal}
+use Rattle.decimals.proofs.WritesAndReads.{decimal-digits, decimal-some, decimal-value}
+use Rattle.image.specs.Bytes.{letterP, white}
+use Rattle.image.specs.Tests.{Test}
 use Rattle.image.specs.Seen.{limit}
-use Rattle.image.specs.Fields.{white, digit}
-use Rattle.image.specs.Pixels.{pixelBytes, rasterBytes, pixelAt}
-use Rattle.image.specs.Reading.{numbersOf}
-use Rattle.image.specs.Format.{AllOf, Some, valueOf, Numeral, HeaderBytes}
-use Rattle.image.specs.Text.{decimalText, headerText}
-use Rattle.image.proofs.Exact.{pgm-is-accepted}
+use Rattle.image.specs.Kinds.{Kind, pgm}
+use Rattle.image.specs.Format.{AllOf, Some, Field, Written, bytesIn, numbersIn, AllPass, Header, HeaderBytes, Image}
+use Rattle.image.specs.Reading.{readingOf, named, numbersOf}
+use Rattle.image.specs.Text.{numberTexts, headerText}
+use Rattle.image.proofs.PlainBytes.{plain-seen, plain-reach, text-has-no-comment}
+use Rattle.image.proofs.ExactReading.{image-is-accepted}
 
-digit-byte : (d : ℕ) → d < 10 → digit (48 + d) ≡ true
-unfolding digit
-digit-byte d h = rw (le-leb 48 (48 + d) (omega arith), le-leb (48 + d) 57 (omega arith))
+-- the decimal text of a number is a run of digits, and one white byte a run of white bytes
+all-digits : (run : List ℕ) → AllDigits run → AllOf digit run
+all-digits [] all = tt
+all-digits (byte ∷ later) all = (all .0, all-digits later (all .1))
 
-all-append : (kind : ℕ → Bool) (a b : List ℕ) → AllOf kind a → AllOf kind b → AllOf kind (a ++ b)
-all-append kind [] b ha hb = hb
-all-append kind (x ∷ a) b ha hb = (ha .0, all-append kind a b (ha .1) hb)
+some-digits : (n : ℕ) → Some digit (decimal n)
+some-digits n = record { all = all-digits (decimal n) (decimal-digits n); not-none = decimal-some n }
 
-value-append : (high : ℕ) (a b : List ℕ) → valueOf high (a ++ b) ≡ valueOf (valueOf high a) b
-unfolding valueOf
-value-append high [] b = refl
-value-append high (x ∷ a) b = value-append (10 * high + (x - 48)) a b
+one-white : (blank : ℕ) → white blank ≡ true → Some white (blank ∷ [])
+one-white blank w = record { all = (w, tt); not-none = omega arith }
 
--- what the digits of a number are
-record Digits (n : ℕ) (run : List ℕ) : Type 0 where
-  all : AllOf digit run
-  not-none : 0 < length run
-  writes : valueOf 0 run ≡ n
+-- the fields of a text
+abbrev fieldsOf : (blank : ℕ) → List ℕ → List Field
+fieldsOf blank [] = []
+fieldsOf blank (number ∷ later) = record { gap = blank ∷ []; digits = decimal number } ∷ fieldsOf blank later
 
-one-digit : (n : ℕ) → n < 10 → Digits n ((48 + n) ∷ [])
-unfolding valueOf
-one-digit n h = record { all = (digit-byte n h, tt); not-none = omega arith; writes = omega arith }
+bytes-of-fields : (blank : ℕ) (numbers : List ℕ) → numberTexts blank numbers ≡ bytesIn (fieldsOf blank numbers)
+bytes-of-fields blank [] = refl
+bytes-of-fields blank (number ∷ later) = ap (λ (l : List ℕ). blank ∷ (decimal number ++ l)) (bytes-of-fields blank later)
 
-digits-are : (places n : ℕ) → n < 10 ^ suc places → Digits n (decimalText places n)
-unfolding decimalText valueOf
-digits-are zero n h = one-digit n h
-digits-are (suc places) n h = by (ltb n 10) refl (digits-are places (n / 10))
-  where
-    last-digit : (m : ℕ) → valueOf (m / 10) ((48 + m % 10) ∷ []) ≡ m
-    last-digit m = omega arith
+fields-written : (blank : ℕ) (numbers : List ℕ) → white blank ≡ true → Written (fieldsOf blank numbers)
+fields-written blank [] w = tt
+fields-written blank (number ∷ later) w = ((one-white blank w, some-digits number), fields-written blank later w)
 
-    by : (b : Bool) → ltb n 10 ≡ b → (n / 10 < 10 ^ suc places → Digits (n / 10) (decimalText places (n / 10)))
-        → Digits n (cond b ((48 + n) ∷ []) (decimalText places (n / 10) ++ ((48 + n % 10) ∷ [])))
-    by true e again = one-digit n (ltb-true n 10 e)
-    by false e again =
-        let bound : n < 10 ^ suc places * 10 = rw (pow-suc 10 (suc places)) at h in
-        let d = again (div-lt-iff-lt-mul {k = 10} (omega arith) .1 bound) in
+fields-write : (blank : ℕ) (numbers : List ℕ) → numbersIn (fieldsOf blank numbers) ≡ numbers
+fields-write blank [] = refl
+fields-write blank (number ∷ later) = λ i. decimal-value number i ∷ fields-write blank later i
+
+pub text-is-header : (sign blank : ℕ) (tests : List Test) (numbers : List ℕ) → white blank ≡ true → AllPass tests numbers
+    → Header sign tests numbers (headerText sign blank numbers)
+unfolding headerText
+text-is-header sign blank tests numbers w passes =
+    record {
+      fields = fieldsOf blank numbers;
+      last = blank;
+      split = ap (λ (l : List ℕ). letterP ∷ sign ∷ (l ++ (blank ∷ []))) (bytes-of-fields blank numbers);
+      written = fields-written blank numbers w;
+      writes = fields-write blank numbers;
+      passes = passes;
+      one = w;
+    }
+
+text-some : (sign blank : ℕ) (numbers : List ℕ) → 0 < length (headerText sign blank numbers)
+unfolding headerText
+text-some sign blank numbers = omega arith
+
+-- in a slice it is one too, since every byte of it is seen
+pub text-is-header-bytes : (kind : Kind) (blank : ℕ) (numbers : List ℕ) → white blank ≡ true → AllPass (kind .tests) numbers
+    → HeaderBytes kind numbers (headerText (kind .sign) blank numbers)
+text-is-header-bytes kind blank numbers w passes =
+    let text = headerText (kind .sign) blank numbers in
+    let plain = text-has-no-comment blank w (kind .sign) numbers in
+    record {
+      header =
+          subst (Header (kind .sign) (kind .tests) numbers) (sym (plain-seen 0 text plain))
+          (text-is-header (kind .sign) blank (kind .tests) numbers w passes);
+      ends = plain-reach 0 text (text-some (kind .sign) blank numbers) plain ∙ zero-add (length text);
+    }
+
+-- with a raster of the right size behind it, no position of which is at fault, it is an image, whatever comes after
+module _ (kind : Kind) (blank : ℕ) (numbers raster rest : List ℕ) where
+  abbrev pub text : List ℕ
+  text = headerText (kind .sign) blank numbers
+
+  module _ (w : white blank ≡ true) (passes : AllPass (kind .tests) numbers) (size : length raster ≡ kind .size numbers)
+      (sound : (position : ℕ) → position < kind .positions numbers → kind .faulty numbers raster position ≡ false)
+      (fits : length text + length raster ≤ limit) where
+    pub text-is-image : Image kind (text ++ (raster ++ rest)) numbers (length text) (length text + length raster)
+    text-is-image =
         record {
-          all = all-append digit (decimalText places (n / 10)) ((48 + n % 10) ∷ []) (d .all) (digit-byte (n % 10) (omega arith), tt);
-          not-none = rw (length-append (decimalText places (n / 10)) ((48 + n % 10) ∷ [])) (omega arith);
-          writes = value-append 0 (decimalText places (n / 10)) ((48 + n % 10) ∷ [])
-              ∙ ap (λ (v : ℕ). valueOf v ((48 + n % 10) ∷ [])) (d .writes)
-              ∙ last-digit n;
+          header = text;
+          raster = raster;
+          rest = rest;
+          split = refl;
+          head = text-is-header-bytes kind blank numbers w passes;
+          raster-length = size;
+          sound = sound;
+          starts = refl;
+          uses = refl;
+          within = fits;
         }
 
--- a number up to 9,999 in decimal is a numeral of the format
-decimal-numeral : (top n : ℕ) → 1 ≤ n → n ≤ top → top < 10000 → Numeral top n (decimalText 3 n)
-decimal-numeral top n low high small =
-    let d = digits-are 3 n (omega arith) in
-    record { digits = record { all = d .all; not-none = d .not-none }; writes = d .writes; low = low; high = high }
+    -- and is read back
+    pub round-trip : readingOf kind (text ++ (raster ++ rest))
+        ≡ record { refusal = 0; numbers = numbers; start = length text; used = length text + length raster }
+    round-trip = image-is-accepted kind (text ++ (raster ++ rest)) text-is-image
 
-one-white : (byte : ℕ) → white byte ≡ true → Some white (byte ∷ [])
-one-white byte w = record { all = (w, tt); not-none = omega arith }
-
-pub text-is-header : (width height maxval : ℕ) → 1 ≤ width → width ≤ 1024 → 1 ≤ height → height ≤ 1024 → 1 ≤ maxval → maxval ≤ 255
-    → HeaderBytes width height maxval (headerText width height maxval)
-unfolding headerText white
-text-is-header width height maxval w₁ w₂ h₁ h₂ m₁ m₂ = record {
-  white₁ = 10 ∷ [];
-  digits₁ = decimalText 3 width;
-  white₂ = 32 ∷ [];
-  digits₂ = decimalText 3 height;
-  white₃ = 10 ∷ [];
-  digits₃ = decimalText 3 maxval;
-  last = 10;
-  split = refl;
-  some₁ = one-white 10 refl;
-  numeral₁ = decimal-numeral 1024 width w₁ w₂ (omega arith);
-  some₂ = one-white 32 refl;
-  numeral₂ = decimal-numeral 1024 height h₁ h₂ (omega arith);
-  some₃ = one-white 10 refl;
-  numeral₃ = decimal-numeral 255 maxval m₁ m₂ (omega arith);
-  one = refl;
-}
-
--- the round trip
-pub round-trip : (width height maxval : ℕ) → 1 ≤ width → width ≤ 1024 → 1 ≤ height → height ≤ 1024 → 1 ≤ maxval → maxval ≤ 255
-    → (raster rest : List ℕ) → length raster ≡ rasterBytes pixelBytes width height
-    → ((position : ℕ) → position < width * height → pixelAt pixelBytes raster position ≤ maxval)
-    → length (headerText width height maxval) + length raster ≤ limit
-    → numbersOf (headerText width height maxval ++ (raster ++ rest))
-    ≡ record {
-      refusal = 0;
-      width = width;
-      height = height;
-      maxval = maxval;
-      start = length (headerText width height maxval);
-      used = length (headerText width height maxval) + length raster;
-    }
-round-trip width height maxval w₁ w₂ h₁ h₂ m₁ m₂ raster rest size dark fits =
-    pgm-is-accepted (headerText width height maxval ++ (raster ++ rest)) record {
-      header = headerText width height maxval;
-      raster = raster;
-      rest = rest;
-      split = refl;
-      numbers = text-is-header width height maxval w₁ w₂ h₁ h₂ m₁ m₂;
-      raster-length = size;
-      pixels = dark;
-      starts = refl;
-      uses = refl;
-      within = fits;
-    }
+-- of a PGM
+module _ (blank : ℕ) (numbers raster rest : List ℕ) (w : white blank ≡ true) (passes : AllPass (pgm .tests) numbers) where
+  pub pgm-round-trip : length raster ≡ pgm .size numbers
+      → ((position : ℕ) → position < pgm .positions numbers → pgm .faulty numbers raster position ≡ false)
+      → length (text pgm blank numbers raster rest) + length raster ≤ limit
+      → numbersOf (text pgm blank numbers raster rest ++ (raster ++ rest))
+      ≡ named record {
+        refusal = 0;
+        numbers = numbers;
+        start = length (text pgm blank numbers raster rest);
+        used = length (text pgm blank numbers raster rest) + length raster;
+      }
+  unfolding numbersOf
+  pgm-round-trip size sound fits = ap named (round-trip pgm blank numbers raster rest w passes size sound fits)

@@ -1,12 +1,15 @@
--- The PGM format as Netpbm describes it, within paper 01's bounds, said without any reading: which bytes are an image, and of which numbers.
-use Prim.Native.Nat.{ℕ, _+_, _*_, _-_, _≤_, _<_}
-use mathlib.Core.Bool.{Bool, true}
+-- The formats as Netpbm describes them, within paper 01's bounds, said without any reading: which bytes are an image of a kind, and of
+-- which numbers.
+use Prim.Native.Nat.{ℕ, _+_, _≤_, _<_}
+use mathlib.Core.Bool.{Bool, true, false}
 use mathlib.Core.List.{List, [], _∷_, _++_}
 use mathlib.Core.Path.{_≡_}
 use lib.ListN.{length}
-use Rattle.image.specs.Seen.{limit}
-use Rattle.image.specs.Fields.{white, digit}
-use Rattle.image.specs.Pixels.{pixelBytes, rasterBytes, pixelAt}
+use Rattle.decimals.specs.Decimal.{digit, valueOf}
+use Rattle.image.specs.Bytes.{letterP, white}
+use Rattle.image.specs.Tests.{Test}
+use Rattle.image.specs.Seen.{limit, visible, bytesOf, reach}
+use Rattle.image.specs.Kinds.{Kind}
 
 -- every byte of a run is of a kind
 abbrev pub AllOf : (ℕ → Bool) → List ℕ → Type 0
@@ -18,45 +21,56 @@ pub record Some (kind : ℕ → Bool) (run : List ℕ) : Type 0 where
   pub all : AllOf kind run
   pub not-none : 0 < length run
 
--- the number that decimal digits write after the number `high`
-unfoldable pub valueOf : ℕ → List ℕ → ℕ
-valueOf high [] = high
-valueOf high (byte ∷ later) = valueOf (10 * high + (byte - 48)) later
+-- a number as it stands in a header: the bytes before it, and its own
+pub record Field : Type 0 where
+  pub gap : List ℕ
+  pub digits : List ℕ
 
--- digits that write a value from 1 to `top`; leading zeros are allowed
-pub record Numeral (top value : ℕ) (run : List ℕ) : Type 0 where
-  pub digits : Some digit run
-  pub writes : valueOf 0 run ≡ value
-  pub low : 1 ≤ value
-  pub high : value ≤ top
+-- white space, then decimal digits; leading zeros are allowed
+abbrev pub Written : List Field → Type 0
+Written [] = Unit {0}
+Written (field ∷ later) = (Some white (field .gap) × Some digit (field .digits)) × Written later
 
--- the bytes of a header with these numbers: `P5`, white space, width, white space, height, white space, maxval, one white byte
-pub record HeaderBytes (width height maxval : ℕ) (bytes : List ℕ) : Type 0 where
-  pub white₁ : List ℕ
-  pub digits₁ : List ℕ
-  pub white₂ : List ℕ
-  pub digits₂ : List ℕ
-  pub white₃ : List ℕ
-  pub digits₃ : List ℕ
+-- the bytes of some fields, one after the other, and the numbers that their digits write
+abbrev pub bytesIn : List Field → List ℕ
+bytesIn [] = []
+bytesIn (field ∷ later) = field .gap ++ (field .digits ++ bytesIn later)
+
+abbrev pub numbersIn : List Field → List ℕ
+numbersIn [] = []
+numbersIn (field ∷ later) = valueOf 0 (field .digits) ∷ numbersIn later
+
+-- for each test a number that passes it
+abbrev pub AllPass : List Test → List ℕ → Type 0
+AllPass [] [] = Unit {0}
+AllPass (test ∷ tests) (number ∷ numbers) = (test number ≡ true) × AllPass tests numbers
+AllPass [] (number ∷ numbers) = ⊥
+AllPass (test ∷ tests) [] = ⊥
+
+-- bytes that are a header with these numbers: `P`, the sign, each number with white space before it, one white byte
+pub record Header (sign : ℕ) (tests : List Test) (numbers bytes : List ℕ) : Type 0 where
+  pub fields : List Field
   pub last : ℕ
-  pub split : bytes ≡ 80 ∷ 53 ∷ (white₁ ++ (digits₁ ++ (white₂ ++ (digits₂ ++ (white₃ ++ (digits₃ ++ (last ∷ [])))))))
-  pub some₁ : Some white white₁
-  pub numeral₁ : Numeral 1024 width digits₁
-  pub some₂ : Some white white₂
-  pub numeral₂ : Numeral 1024 height digits₂
-  pub some₃ : Some white white₃
-  pub numeral₃ : Numeral 255 maxval digits₃
+  pub split : bytes ≡ letterP ∷ sign ∷ (bytesIn fields ++ (last ∷ []))
+  pub written : Written fields
+  pub writes : numbersIn fields ≡ numbers
+  pub passes : AllPass tests numbers
   pub one : white last ≡ true
 
--- a slice that starts with an image: its header, its raster, no pixel of which is above maxval, and whatever comes after them
-pub record Pgm (s : List ℕ) (width height maxval start used : ℕ) : Type 0 where
+-- bytes of a slice that are one: what is seen of them is, and the last of them is seen
+pub record HeaderBytes (kind : Kind) (numbers bytes : List ℕ) : Type 0 where
+  pub header : Header (kind .sign) (kind .tests) numbers (bytesOf (visible false 0 bytes))
+  pub ends : reach (visible false 0 bytes) ≡ length bytes
+
+-- a slice that starts with an image: its header, its raster with no position at fault, and whatever comes after them
+pub record Image (kind : Kind) (s numbers : List ℕ) (start used : ℕ) : Type 0 where
   pub header : List ℕ
   pub raster : List ℕ
   pub rest : List ℕ
   pub split : s ≡ header ++ (raster ++ rest)
-  pub numbers : HeaderBytes width height maxval header
-  pub raster-length : length raster ≡ rasterBytes pixelBytes width height
-  pub pixels : (position : ℕ) → position < width * height → pixelAt pixelBytes raster position ≤ maxval
+  pub head : HeaderBytes kind numbers header
+  pub raster-length : length raster ≡ kind .size numbers
+  pub sound : (position : ℕ) → position < kind .positions numbers → kind .faulty numbers raster position ≡ false
   pub starts : start ≡ length header
   pub uses : used ≡ length header + length raster
   pub within : used ≤ limit

@@ -1,10 +1,14 @@
+pub mod Bytes
+pub mod Tests
 pub mod Seen
 pub mod Step
 pub mod Fields
 pub mod Pixels
+pub mod Kinds
 pub mod Reading
 pub mod Part
 pub mod Told
 pub mod Format
+pub mod FirstFault
 pub mod Promised
 pub mod Text

@@ -1,6 +1,6 @@
--- The whole reading of an image: the header's fields in order, then the raster. A refused reading has all numbers 0.
+-- The whole reading of an image of any kind: the header's fields in order, then the raster. A refused reading has all numbers 0.
 use Prim.Native.Nat.{ℕ, _+_, _*_, _-_}
-use mathlib.Core.List.{List, [], _∷_}
+use mathlib.Core.List.{List, [], _∷_, _++_}
 use lib.Dec.{ltb}
 use lib.ListN.{length, take, drop}
 use Rattle.refusals.specs.Numbers.{imageTooLarge, endsTooEarly, pixelTooLarge}
@@ -8,45 +8,85 @@ use Rattle.refusals.specs.First.{Fault, _gives_, passedOn, firstOf, unlessRefus
 use Rattle.refusals.specs.Call.{Call}
 use Rattle.image.specs.declared.Numbers.{Numbers}
 use Rattle.image.specs.Seen.{limit, ahead, endOf}
-use Rattle.image.specs.Step.{andThen}
-use Rattle.image.specs.Fields.{magic, numberField}
-use Rattle.image.specs.Pixels.{pixelBytes, rasterBytes, pixelAt, largest}
+use Rattle.image.specs.Step.{Step, andThen}
+use Rattle.image.specs.Fields.{headerFields}
+use Rattle.image.specs.Pixels.{pixelBytes, pixelAt, atSome}
+use Rattle.image.specs.Kinds.{Kind, widthIn, heightIn, maxvalIn, pgm}
+
+-- what a reading gives: the numbers of the header, where the raster starts, and the bytes used
+pub record Reading : Type 0 where
+  pub refusal : ℕ
+  pub numbers : List ℕ
+  pub start : ℕ
+  pub used : ℕ
+
+-- a refused reading has no number, and lies nowhere
+abbrev pub refusedReading : ℕ → Reading
+refusedReading refusal = record { refusal = refusal; numbers = []; start = 0; used = 0 }
+
+-- of an image whose header has these numbers and takes `start` bytes: the bytes used with its raster, and the raster
+abbrev pub usedWith : Kind → List ℕ → ℕ → ℕ
+usedWith kind numbers start = start + kind .size numbers
+
+abbrev pub rasterAt : Kind → List ℕ → List ℕ → ℕ → List ℕ
+rasterAt kind s numbers start = take (kind .size numbers) (drop start s)
+
+-- after the header, in order: header plus raster above the limit, the slice too short …
+abbrev pub sizeFaults : Kind → List ℕ → List ℕ → ℕ → List Fault
+sizeFaults kind s numbers start =
+    (ltb limit (usedWith kind numbers start) gives imageTooLarge) ∷ (ltb (length s) (usedWith kind numbers start) gives endsTooEarly) ∷ []
+
+-- … and a position at fault, which in a PGM is a pixel above maxval
+abbrev pub pixelFaults : Kind → List ℕ → List ℕ → ℕ → List Fault
+pixelFaults kind s numbers start =
+    (atSome (kind .faulty numbers (rasterAt kind s numbers start)) (kind .positions numbers) gives pixelTooLarge) ∷ []
+
+unfoldable pub rasterRefusal : Kind → List ℕ → List ℕ → ℕ → ℕ
+rasterRefusal kind s numbers start = firstOf (sizeFaults kind s numbers start ++ pixelFaults kind s numbers start)
+
+unfoldable pub withRaster : Kind → List ℕ → List ℕ → ℕ → Reading
+withRaster kind s numbers start =
+    let refusal = rasterRefusal kind s numbers start in
+    unlessRefused refusal
+    record { refusal = 0; numbers = numbers; start = start; used = usedWith kind numbers start }
+    (refusedReading refusal)
+
+-- the header as far as the slice or the limit lets it be seen
+unfoldable pub headerOf : Kind → List ℕ → Step (List ℕ)
+headerOf kind s = headerFields (endOf s) (kind .sign) (kind .tests) (ahead s 0)
+
+unfoldable pub readingOf : Kind → List ℕ → Reading
+readingOf kind s = andThen refusedReading (headerOf kind s) λ numbers start rest. withRaster kind s numbers start
+
+-- the reading of a PGM, with its numbers by their names
+abbrev pub named : Reading → Numbers
+named reading =
+    record {
+      refusal = reading .refusal;
+      width = widthIn (reading .numbers);
+      height = heightIn (reading .numbers);
+      maxval = maxvalIn (reading .numbers);
+      start = reading .start;
+      used = reading .used;
+    }
+
+unfoldable pub numbersOf : List ℕ → Numbers
+numbersOf s = named (readingOf pgm s)
 
 -- the answer of a refused reading
 abbrev pub refusedWith : ℕ → Numbers
-refusedWith refusal = record { refusal = refusal; width = 0; height = 0; maxval = 0; start = 0; used = 0 }
-
--- after the header, in order: header plus raster above the limit, the slice too short, a pixel above maxval
-abbrev pub rasterFaults : ℕ → List ℕ → ℕ → ℕ → ℕ → ℕ → List Fault
-rasterFaults per s width height maxval start =
-    let size = rasterBytes per width height in
-    (ltb limit (start + size) gives imageTooLarge)
-    ∷ (ltb (length s) (start + size) gives endsTooEarly)
-    ∷ (ltb maxval (largest (pixelAt per (take size (drop start s))) (width * height)) gives pixelTooLarge)
-    ∷ []
-
--- the reading of an image whose header has these numbers and takes `start` bytes
-unfoldable pub withRaster : ℕ → List ℕ → ℕ → ℕ → ℕ → ℕ → Numbers
-withRaster per s width height maxval start =
-    let refusal = firstOf (rasterFaults per s width height maxval start) in
-    unlessRefused refusal
-    record { refusal = 0; width = width; height = height; maxval = maxval; start = start; used = start + rasterBytes per width height }
-    (refusedWith refusal)
-
--- `P5`, white space, width, white space, height, white space, maxval, one white byte, raster; width and height are 1 to 1,024 and maxval
--- is 1 to 255
-unfoldable pub numbersOf : List ℕ → Numbers
-numbersOf s =
-    let end = endOf s in
-    andThen refusedWith (magic end 53 (ahead s 0)) λ sign used rest.
-    andThen refusedWith (numberField end 1024 rest) λ width used rest.
-    andThen refusedWith (numberField end 1024 rest) λ height used rest.
-    andThen refusedWith (numberField end 255 rest) λ maxval start rest.
-    withRaster pixelBytes s width height maxval start
+refusedWith refusal = named (refusedReading refusal)
 
 -- the bytes of the raster: those from the header's end up to the bytes used
 abbrev pub rasterIn : List ℕ → List ℕ
 rasterIn s = let numbers = numbersOf s in take (numbers .used - numbers .start) (drop (numbers .start) s)
+
+-- for the crates above: how many positions the image has, and the pixel at a position
+unfoldable pub positionsOf : List ℕ → ℕ
+positionsOf s = numbersOf s .width * numbersOf s .height
+
+unfoldable pub pixelOf : List ℕ → ℕ → ℕ
+pixelOf s position = pixelAt (pixelBytes (numbersOf s .maxval)) (rasterIn s) position
 
 -- the call that gives the numbers: its one fault is the reading's own, and the bytes are lent only to be read
 unfoldable pub headerCall : List ℕ → Call Numbers (List ℕ)

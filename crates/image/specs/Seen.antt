@@ -1,7 +1,7 @@
 -- The header bytes that a reader sees: those of the slice up to the limit, each with the number of bytes used once it is taken.
 -- Nothing else says which byte of a slice comes next in a header.
 use Prim.Native.Nat.{ℕ, suc}
-use mathlib.Core.Bool.{cond}
+use mathlib.Core.Bool.{Bool, false, cond, _||_}
 use mathlib.Core.List.{List, [], _∷_}
 use lib.Dec.{leb}
 use lib.ListN.{length, take, drop}
@@ -11,19 +11,38 @@ use Rattle.refusals.specs.Numbers.{imageTooLarge, endsTooEarly}
 abbrev pub limit : ℕ
 limit = 24576
 
--- a header byte, and the bytes used with it
+-- a header byte that is seen, and the bytes used with it
 pub record Seen : Type 0 where
   pub byte : ℕ
   pub upto : ℕ
 
--- the bytes of a list that starts after `used` bytes
-unfoldable pub tagged : ℕ → List ℕ → List Seen
-tagged used [] = []
-tagged used (byte ∷ later) = record { byte = byte; upto = suc used } ∷ tagged (suc used) later
+-- whether a comment goes on behind a byte that has `used` bytes before it, where it stands inside one or not.
+-- Paper 01 knows no comments
+unfoldable pub comments : (inside : Bool) (used byte : ℕ) → Bool
+comments inside used byte = false
 
--- what a reader that has used some bytes of the slice still sees
+-- the bytes, of a list that starts after `used` bytes, that are seen: a comment hides its first byte, its last, and all between them
+unfoldable pub visible : (inside : Bool) (used : ℕ) → List ℕ → List Seen
+visible inside used [] = []
+visible inside used (byte ∷ later) =
+    let goesOn = comments inside used byte in
+    let behind = visible goesOn (suc used) later in
+    cond (inside || goesOn) behind (record { byte = byte; upto = suc used } ∷ behind)
+
+-- what a reader that has used some bytes of the slice, the last of them a byte that it saw, still sees
 unfoldable pub ahead : List ℕ → ℕ → List Seen
-ahead s used = tagged used (drop used (take limit s))
+ahead s used = visible false used (drop used (take limit s))
+
+-- the bytes alone
+abbrev pub bytesOf : List Seen → List ℕ
+bytesOf [] = []
+bytesOf (seen ∷ rest) = seen .byte ∷ bytesOf rest
+
+-- how many bytes are used once all that is seen is taken
+abbrev pub reach : List Seen → ℕ
+reach [] = 0
+reach (seen ∷ []) = seen .upto
+reach (seen ∷ next ∷ rest) = reach (next ∷ rest)
 
 -- needing a byte that is not there: 13 where it would be the 24,577th, else 14
 unfoldable pub endOf : List ℕ → ℕ

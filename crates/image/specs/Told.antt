@@ -1,19 +1,25 @@
 -- How the answers of the code's own steps stand for the steps of the definitions. Only contracts of private functions speak of this.
-use Prim.Native.Nat.{ℕ}
+use Prim.Native.Nat.{ℕ, zero, suc, max}
 use mathlib.Core.Bool.{cond}
 use mathlib.Core.List.{List}
 use Rattle.refusals.specs.Numbers.{numberOutOfRange}
-use Rattle.refusals.specs.First.{unlessRefused, outside}
+use Rattle.refusals.specs.First.{unlessRefused}
 use Rattle.image.specs.declared.bytes.Took.{Took}
+use Rattle.image.specs.Tests.{upTo}
 use Rattle.image.specs.Seen.{ahead}
 use Rattle.image.specs.Step.{Step, stopped, found}
 
 -- the step that an answer tells of: with no refusal, its value and the bytes that are still ahead
-unfoldable pub told : List ℕ → Took → Step
+unfoldable pub told : List ℕ → Took → Step ℕ
 told s took = unlessRefused (took .refusal) (found (took .value) (took .used) (ahead s (took .used))) (stopped (took .refusal))
 
 -- the answer at the white byte after a number
 unfoldable pub judgedTook : ℕ → ℕ → ℕ → Took
 judgedTook top value used =
-    cond (outside 1 top value) record { refusal = numberOutOfRange; value = 0; used = 0 }
-    record { refusal = 0; value = value; used = used }
+    cond (upTo top value) record { refusal = 0; value = value; used = used }
+    record { refusal = numberOutOfRange; value = 0; used = 0 }
+
+-- the largest of the first `count` pixels: how the code looks for one that is above maxval
+unfoldable pub largest : (ℕ → ℕ) → ℕ → ℕ
+largest pixel zero = 0
+largest pixel (suc count) = max (largest pixel count) (pixel count)

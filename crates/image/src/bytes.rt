@@ -1,6 +1,7 @@
 // The bytes of a header, one at a time. `next` alone takes them.
 ghost use mathlib.Core.Path.{_≡_};
-ghost use Rattle.image.specs.Seen.{ahead, endOf};
+ghost use Prim.Native.Nat.{_≤_};
+ghost use Rattle.image.specs.Seen.{limit, ahead, endOf};
 ghost use Rattle.image.specs.Step.{nextByte};
 ghost use Rattle.image.specs.Told.{told};
 use refusals::ENDS_TOO_EARLY;
@@ -38,7 +39,8 @@ fn end_of(s: &[u8]) -> u8
 
 // The header byte after the first `used` bytes.
 pub(crate) fn next(s: &[u8], used: usize) -> Took
-    ensures { λ r. ⌜ told (now (s .entry)) r ≡ nextByte (endOf (now (s .entry))) (ahead (now (s .entry)) used) ⌝ }
+    ensures step { λ r. ⌜ told (now (s .entry)) r ≡ nextByte (endOf (now (s .entry))) (ahead (now (s .entry)) used) ⌝ }
+    ensures within { λ r. ⌜ r .used ≤ limit ⌝ }
 {
     if s.len() <= used {
         return stopped(end_of(s));

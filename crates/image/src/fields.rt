@@ -1,38 +1,59 @@
-// The fields of a header: the sign `P5`, white space, and the three numbers.
+// The fields of a header: the sign, white space, and numbers.
 ghost use mathlib.Core.Path.{_≡_};
 ghost use mathlib.Core.Bool.{true};
-ghost use Prim.Native.Nat.{_+_, _*_, _-_, _≤_, _<_, min};
-ghost use Rattle.image.specs.Seen.{ahead, endOf};
+ghost use Prim.Native.Nat.{_≤_, _<_, min};
+ghost use Rattle.decimals.specs.Decimal.{digit, withDigit};
+ghost use Rattle.image.specs.Bytes.{white};
+ghost use Rattle.image.specs.Tests.{upTo};
+ghost use Rattle.image.specs.Seen.{limit, ahead, endOf};
+ghost use Rattle.image.specs.Step.{stopped, andThen};
 ghost use Rattle.image.specs.Told.{told, judgedTook};
-ghost use Rattle.image.specs.Fields.{white, digit, afterWhite, moreDigits, numberField, magic};
+ghost use Rattle.image.specs.Fields.{afterWhite, moreDigits, numberField, magic};
 use crate::bytes;
 use crate::bytes::Took;
 use refusals::NUMBER_OUT_OF_RANGE;
 use refusals::WRONG_BYTE;
 
+const LETTER_P: usize = 80;
+
+const SPACE: usize = 32;
+
+const TAB: usize = 9;
+
+const CARRIAGE_RETURN: usize = 13;
+
+const LINE_FEED: usize = 10;
+
+const ZERO: usize = 48;
+
+const NINE: usize = 57;
+
+// Above every range.
+const ABOVE: usize = 65536;
+
 // Space, TAB, CR or LF.
 fn is_white(byte: usize) -> bool
     ensures { λ r. ⌜ r ≡ white byte ⌝ }
 {
-    if byte == 32 {
+    if byte == SPACE {
         return true;
     }
-    if byte == 9 {
+    if byte == TAB {
         return true;
     }
-    if byte == 13 {
+    if byte == CARRIAGE_RETURN {
         return true;
     }
-    byte == 10
+    byte == LINE_FEED
 }
 
 fn is_digit(byte: usize) -> bool
     ensures { λ r. ⌜ r ≡ digit byte ⌝ }
 {
-    if byte < 48 {
+    if byte < ZERO {
         return false;
     }
-    byte <= 57
+    byte <= NINE
 }
 
 // The bytes used before the first byte that is not white.
@@ -53,43 +74,41 @@ fn skip_white(s: &[u8], used: usize) -> usize
     }
 }
 
-// A number with one digit more. It stops at 65,536, which is above every range, so that no run of digits can wrap it.
+// A number with one digit more. It stops above every range, so that no run of digits can wrap it.
 fn grown(value: usize, byte: usize) -> usize
     requires { ⌜ (value ≤ 65536) × (digit byte ≡ true) ⌝ }
-    ensures { λ r. ⌜ r ≡ min 65536 (10 * value + (byte - 48)) ⌝ }
+    ensures { λ r. ⌜ r ≡ min 65536 (withDigit value byte) ⌝ }
 {
-    let more = 10 * value + (byte - 48);
-    if more < 65536 { more } else { 65536 }
+    let more = 10 * value + (byte - ZERO);
+    if more < ABOVE { more } else { ABOVE }
 }
 
 // A number at the white byte after its digits.
 fn judge(value: usize, top: usize, used: usize) -> Took
     ensures { λ r. ⌜ r ≡ judgedTook top value used ⌝ }
 {
-    if value < 1 {
-        return bytes::stopped(NUMBER_OUT_OF_RANGE);
+    if 1 <= value && value <= top {
+        return Took {
+            refusal: 0,
+            value,
+            used,
+        };
     }
-    if top < value {
-        return bytes::stopped(NUMBER_OUT_OF_RANGE);
-    }
-    Took {
-        refusal: 0,
-        value,
-        used,
-    }
+    bytes::stopped(NUMBER_OUT_OF_RANGE)
 }
 
 // The digits after those that write `first`, and the white byte after them.
 fn more_digits(s: &[u8], used: usize, first: usize, top: usize) -> Took
     requires { ⌜ (first ≤ 65536) × (top < 65536) ⌝ }
-    ensures { λ r. ⌜ told (now (s .entry)) r ≡ moreDigits (endOf (now (s .entry))) top first (ahead (now (s .entry)) used) ⌝ }
+    ensures step { λ r. ⌜ told (now (s .entry)) r ≡ moreDigits (endOf (now (s .entry))) (upTo top) first (ahead (now (s .entry)) used) ⌝ }
+    ensures within { λ r. ⌜ (r .value ≤ top) × (r .used ≤ limit) ⌝ }
 {
     let mut at = used;
     let mut value = first;
     loop {
         let took = bytes::next(s, at);
         if took.refusal != 0 {
-            return took;
+            return bytes::stopped(took.refusal);
         }
         if is_white(took.value) {
             return judge(value, top, took.used);
@@ -103,37 +122,42 @@ fn more_digits(s: &[u8], used: usize, first: usize, top: usize) -> Took
     }
 }
 
-// A number from 1 to `top`, with the white bytes before it and one white byte after it.
-pub(crate) fn number(s: &[u8], used: usize, top: usize) -> Took
+// Behind what was taken before: a number from 1 to `top`, with the white bytes before it and one white byte after it. A refusal from
+// before is passed on.
+pub(crate) fn number(s: &[u8], before: Took, top: usize) -> Took
     requires { ⌜ top < 65536 ⌝ }
-    ensures { λ r. ⌜ told (now (s .entry)) r ≡ numberField (endOf (now (s .entry))) top (ahead (now (s .entry)) used) ⌝ }
+    ensures step { λ r. ⌜ told (now (s .entry)) r ≡ andThen stopped (told (now (s .entry)) before) (λ value used rest. numberField (endOf (now (s .entry))) (upTo top) rest) ⌝ }
+    ensures within { λ r. ⌜ (r .value ≤ top) × (r .used ≤ limit) ⌝ }
 {
-    let first = bytes::next(s, skip_white(s, used));
+    if before.refusal != 0 {
+        return bytes::stopped(before.refusal);
+    }
+    let first = bytes::next(s, skip_white(s, before.used));
     if first.refusal != 0 {
-        return first;
+        return bytes::stopped(first.refusal);
     }
     if is_digit(first.value) {
-        return more_digits(s, first.used, first.value - 48, top);
+        return more_digits(s, first.used, first.value - ZERO, top);
     }
     bytes::stopped(WRONG_BYTE)
 }
 
 // `P`, the byte that says what kind of image it is, and one white byte.
-pub(crate) fn magic(s: &[u8], kind: usize) -> Took
-    ensures { λ r. ⌜ told (now (s .entry)) r ≡ magic (endOf (now (s .entry))) kind (ahead (now (s .entry)) 0) ⌝ }
+pub(crate) fn magic(s: &[u8], sign: usize) -> Took
+    ensures { λ r. ⌜ told (now (s .entry)) r ≡ magic (endOf (now (s .entry))) sign (ahead (now (s .entry)) 0) ⌝ }
 {
     let first = bytes::next(s, 0);
     if first.refusal != 0 {
         return first;
     }
-    if first.value != 80 {
+    if first.value != LETTER_P {
         return bytes::stopped(WRONG_BYTE);
     }
     let second = bytes::next(s, first.used);
     if second.refusal != 0 {
         return second;
     }
-    if second.value != kind {
+    if second.value != sign {
         return bytes::stopped(WRONG_BYTE);
     }
     let third = bytes::next(s, second.used);

@@ -8,6 +8,13 @@ mod bytes;
 mod fields;
 mod pixels;
 
+// The byte of the sign behind `P`, and the largest numbers, as specs/Kinds.antt has them.
+const GRAY: usize = 53;
+
+const LARGEST_SIDE: usize = 1024;
+
+const LARGEST_MAXVAL: usize = 255;
+
 // The numbers of an image: the raster lies in the bytes from `start` up to `used`. With a refusal all others are 0.
 #[repr(C)]
 pub struct Numbers {
@@ -23,23 +30,11 @@ pub struct Numbers {
 pub fn header(s: &[u8]) -> Numbers
     ensures { λ r. ⌜ r ≡ numbersOf (now (s .entry)) ⌝ }
 {
-    let magic = fields::magic(s, 53);
-    if magic.refusal != 0 {
-        return pixels::refused(magic.refusal);
-    }
-    let width = fields::number(s, magic.used, 1024);
-    if width.refusal != 0 {
-        return pixels::refused(width.refusal);
-    }
-    let height = fields::number(s, width.used, 1024);
-    if height.refusal != 0 {
-        return pixels::refused(height.refusal);
-    }
-    let maxval = fields::number(s, height.used, 255);
-    if maxval.refusal != 0 {
-        return pixels::refused(maxval.refusal);
-    }
-    pixels::judge(s, width.value, height.value, maxval.value, maxval.used)
+    let sign = fields::magic(s, GRAY);
+    let width = fields::number(s, sign, LARGEST_SIDE);
+    let height = fields::number(s, width, LARGEST_SIDE);
+    let maxval = fields::number(s, height, LARGEST_MAXVAL);
+    pixels::behind(s, width.value, height.value, maxval)
 }
 
 // The raster itself, as the part of the slice in which it lies; an empty part where the image is refused.

@@ -1,12 +1,18 @@
 // The raster of an image: whether it fits, whether it is there, and whether a pixel is too large.
+ghost use mathlib.Core.List.{[], _∷_};
 ghost use mathlib.Core.Path.{_≡_};
-ghost use Prim.Native.Nat.{_+_, _*_, _≤_, _<_, max};
+ghost use Prim.Native.Nat.{_*_, _≤_, max};
 ghost use lib.Dec.{ltb};
 ghost use lib.ListN.{length};
-ghost use Rattle.image.specs.Pixels.{pixelBytes, pixelAt, largest};
-ghost use Rattle.image.specs.Reading.{refusedWith, withRaster};
+ghost use Rattle.image.specs.Seen.{limit};
+ghost use Rattle.image.specs.Pixels.{pixelBytes, pixelAt, atSome};
+ghost use Rattle.image.specs.Step.{andThen};
+ghost use Rattle.image.specs.Told.{told, largest};
+ghost use Rattle.image.specs.Kinds.{pgm, largestSide};
+ghost use Rattle.image.specs.Reading.{refusedWith, named, withRaster};
 use crate::Numbers;
 use crate::bytes::LIMIT;
+use crate::bytes::Took;
 use refusals::ENDS_TOO_EARLY;
 use refusals::IMAGE_TOO_LARGE;
 use refusals::PIXEL_TOO_LARGE;
@@ -36,38 +42,44 @@ fn larger(a: u8, b: u8) -> u8
     if a < b { b } else { a }
 }
 
-// The largest pixel of the first and of the second `half` pixels. One pass that LLVM turns into vector instructions: nothing in the loop
-// but the larger of two bytes; with both halves side by side each turn takes twice as many pixels.
-fn largest_of_halves(raster: &[u8], half: usize) -> u8
-    requires { ⌜ half + half ≤ length (now raster) ⌝ }
-    ensures { λ r. ⌜ r ≡ largest (pixelAt pixelBytes (now (raster .entry))) (half + half) ⌝ }
+// The largest pixel of four times `quarter` pixels. One pass that LLVM turns into vector instructions: nothing in the loop but the larger
+// of two bytes; with four quarters side by side each turn takes four times as many pixels.
+fn largest_of_quarters(raster: &[u8], quarter: usize) -> u8
+    requires { ⌜ 4 * quarter ≤ length (now raster) ⌝ }
+    ensures { λ r. ⌜ r ≡ largest (pixelAt 1 (now (raster .entry))) (4 * quarter) ⌝ }
 {
     let mut first: u8 = 0;
     let mut second: u8 = 0;
+    let mut third: u8 = 0;
+    let mut fourth: u8 = 0;
     let mut i = 0;
-    while i < half {
+    while i < quarter {
         first = larger(first, raster[i]);
-        second = larger(second, raster[half + i]);
+        second = larger(second, raster[quarter + i]);
+        third = larger(third, raster[2 * quarter + i]);
+        fourth = larger(fourth, raster[3 * quarter + i]);
         i += 1;
     }
-    larger(first, second)
+    larger(larger(first, second), larger(third, fourth))
 }
 
-// The largest pixel: an odd number of them leaves one behind the halves.
+// The largest pixel: up to three of them are left behind the quarters.
 fn largest_of(raster: &[u8]) -> u8
-    ensures { λ r. ⌜ r ≡ largest (pixelAt pixelBytes (now (raster .entry))) (length (now (raster .entry))) ⌝ }
+    ensures { λ r. ⌜ r ≡ largest (pixelAt 1 (now (raster .entry))) (length (now (raster .entry))) ⌝ }
 {
-    let half = raster.len() / 2;
-    let most = largest_of_halves(raster, half);
-    if half + half == raster.len() {
-        return most;
+    let quarter = raster.len() / 4;
+    let mut most = largest_of_quarters(raster, quarter);
+    let mut i = 4 * quarter;
+    while i < raster.len() {
+        most = larger(most, raster[i]);
+        i += 1;
     }
-    larger(most, raster[half + half])
+    most
 }
 
 // Whether a pixel of the raster is above maxval.
 fn too_large(raster: &[u8], maxval: usize) -> bool
-    ensures { λ r. ⌜ r ≡ ltb maxval (largest (pixelAt pixelBytes (now (raster .entry))) (length (now (raster .entry)))) ⌝ }
+    ensures { λ r. ⌜ r ≡ atSome (λ position. ltb maxval (pixelAt (pixelBytes maxval) (now (raster .entry)) position)) (length (now (raster .entry))) ⌝ }
 {
     if MOST <= maxval {
         return false;
@@ -76,9 +88,9 @@ fn too_large(raster: &[u8], maxval: usize) -> bool
 }
 
 // The answer for a header that has these numbers and takes `start` bytes.
-pub(crate) fn judge(s: &[u8], width: usize, height: usize, maxval: usize, start: usize) -> Numbers
-    requires { ⌜ (width ≤ 1024) × (height ≤ 1024) × (start ≤ 24576) ⌝ }
-    ensures { λ r. ⌜ r ≡ withRaster pixelBytes (now (s .entry)) width height maxval start ⌝ }
+fn judge(s: &[u8], width: usize, height: usize, maxval: usize, start: usize) -> Numbers
+    requires { ⌜ (width ≤ largestSide) × (height ≤ largestSide) × (start ≤ limit) ⌝ }
+    ensures { λ r. ⌜ r ≡ named (withRaster pgm (now (s .entry)) (width ∷ height ∷ maxval ∷ []) start) ⌝ }
 {
     let used = start + width * height * PIXEL_BYTES;
     if LIMIT < used {
@@ -98,4 +110,15 @@ pub(crate) fn judge(s: &[u8], width: usize, height: usize, maxval: usize, start:
         start,
         used,
     }
+}
+
+// The answer for a header that has this width and height, and with them what was taken for its maxval.
+pub(crate) fn behind(s: &[u8], width: usize, height: usize, maxval: Took) -> Numbers
+    requires { ⌜ (width ≤ largestSide) × (height ≤ largestSide) × (maxval .used ≤ limit) ⌝ }
+    ensures { λ r. ⌜ r ≡ andThen refusedWith (told (now (s .entry)) maxval) (λ most start rest. named (withRaster pgm (now (s .entry)) (width ∷ height ∷ most ∷ []) start)) ⌝ }
+{
+    if maxval.refusal != 0 {
+        return refused(maxval.refusal);
+    }
+    judge(s, width, height, maxval.value, maxval.used)
 }

@@ -1,3 +1,2 @@
-pub mod Digits
 pub mod Writing
 pub mod Demand1

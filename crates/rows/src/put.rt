@@ -4,7 +4,7 @@ ghost use mathlib.Core.Path.{_≡_};
 ghost use Prim.Native.Nat.{_+_, _≤_, _<_};
 ghost use lib.ListN.{length};
 ghost use Rattle.rows.specs.Calls.{lineMost};
-ghost use Rattle.rows.specs.Decimal.{decimal};
+ghost use Rattle.decimals.specs.Decimal.{digitByte, decimal};
 ghost use Rattle.rows.specs.Row.{fieldText, scoreText, wordText, rowText, refusedText};
 ghost use Rattle.rows.specs.Appended.{Appended};
 use crate::Scored;
@@ -51,7 +51,7 @@ pub(crate) fn wide(n: u8) -> u64
 // The byte of a digit.
 fn digit(d: u64) -> u8
     requires { ⌜ d < 10 ⌝ }
-    ensures { λ r. ⌜ r ≡ 48 + d ⌝ }
+    ensures { λ r. ⌜ r ≡ digitByte d ⌝ }
 {
     48 + d as u8
 }

@@ -1,48 +1,74 @@
--- Counts of changed positions.
+-- Counts of the positions that pass a test, and when pixels moved.
 -- Assumes nothing.
 use Prim.Native.Nat.{ℕ, zero, suc, _+_, _≤_, _<_}
-use mathlib.Core.Bool.{Bool, true, false, cond}
-use mathlib.Core.Path.{_≡_, refl, ap}
+use mathlib.Core.Bool.{Bool, true, false}
+use mathlib.Core.Path.{_≡_, refl, sym, ap, _∙_}
 use native.Mathlib.Omega.{arith}
 use native.Mathlib.Numerals.{add-one}
 use borrow.Author.Tests.{lt-ltb, le-ltb}
-use Rattle.score.specs.Changed.{apart, moved, changed}
+use Rattle.score.specs.Changed.{apart, moved, oneIf, counted}
 
-at-most-one : (b : Bool) → cond b 1 0 ≤ 1
-at-most-one true = omega arith
-at-most-one false = omega arith
-
-pub moved-le : (allowance x y : ℕ) → moved allowance x y ≤ 1
+-- pixels moved from a difference of one more than the allowance on
+pub far-moved : (allowance x y : ℕ) → allowance < apart x y → moved allowance x y ≡ true
 unfolding moved
-moved-le allowance x y = search at-most-one
+far-moved allowance x y h = lt-ltb allowance _ (omega arith)
 
--- pixels count from a difference of one more than the allowance on
-pub moved-counts : (allowance x y : ℕ) → allowance < apart x y → moved allowance x y ≡ 1
+pub near-still : (allowance x y : ℕ) → apart x y ≤ allowance → moved allowance x y ≡ false
 unfolding moved
-moved-counts allowance x y h = ap (λ (b : Bool). cond b 1 0) (lt-ltb allowance _ (omega arith))
+near-still allowance x y h = le-ltb allowance _ (omega arith)
 
-pub still-counts-not : (allowance x y : ℕ) → apart x y ≤ allowance → moved allowance x y ≡ 0
-unfolding moved
-still-counts-not allowance x y h = ap (λ (b : Bool). cond b 1 0) (le-ltb allowance _ (omega arith))
+-- a position counts once at most
+pub one-at-most : (holds : Bool) → oneIf holds ≤ 1
+one-at-most true = omega arith
+one-at-most false = omega arith
 
-module _ (allowance : ℕ) (first second : ℕ → ℕ) where
-  pub changed-none : changed allowance first second 0 ≡ 0
-  unfolding changed
-  changed-none = refl
+module _ (test : ℕ → Bool) where
+  pub counted-none : counted test 0 ≡ 0
+  unfolding counted
+  counted-none = refl
 
-  pub changed-more : (count : ℕ)
-      → changed allowance first second (suc count) ≡ changed allowance first second count + moved allowance (first count) (second count)
-  unfolding changed
-  changed-more count = refl
+  pub counted-more : (count : ℕ) → counted test (suc count) ≡ counted test count + oneIf (test count)
+  unfolding counted
+  counted-more count = refl
 
   -- a count from any position on, and one position more
-  pub changed-on : (from count here step : ℕ) → changed allowance first second from + count ≡ changed allowance first second here
-      → step ≡ moved allowance (first here) (second here)
-      → changed allowance first second from + (count + step) ≡ changed allowance first second (here + 1)
-  changed-on from count here step so-far is-step = rw (add-one here, changed-more here) (omega (arith, so-far, is-step))
+  pub counted-on : (from count here step : ℕ) → counted test from + count ≡ counted test here → step ≡ oneIf (test here)
+      → counted test from + (count + step) ≡ counted test (here + 1)
+  counted-on from count here step so-far is-step = rw (add-one here, counted-more here) (omega (arith, so-far, is-step))
 
-  -- no more positions changed than there are
-  pub changed-le : (count : ℕ) → changed allowance first second count ≤ count
-  unfolding changed
-  changed-le zero = omega arith
-  changed-le (suc count) = omega (arith, changed-le count, moved-le allowance (first count) (second count))
+  -- no more positions than there are
+  pub counted-le : (count : ℕ) → counted test count ≤ count
+  unfolding counted
+  counted-le zero = omega arith
+  counted-le (suc count) = omega (arith, counted-le count, one-at-most (test count))
+
+  -- a test that holds nowhere counts nothing
+  pub counted-nowhere : (count : ℕ) → ((position : ℕ) → position < count → test position ≡ false) → counted test count ≡ 0
+  unfolding counted
+  counted-nowhere zero nowhere = refl
+  counted-nowhere (suc count) nowhere =
+      let before = counted-nowhere count (λ position lt. nowhere position (omega arith)) in
+      omega (arith, before, ap oneIf (nowhere count (omega arith)))
+
+fewer : (holds holds′ : Bool) → (holds ≡ true → holds′ ≡ true) → oneIf holds ≤ oneIf holds′
+fewer true holds′ so = rw (so refl) (omega arith)
+fewer false holds′ so = omega arith
+
+-- a test that holds only where another does counts no more
+pub counted-fewer : (test test′ : ℕ → Bool) (count : ℕ)
+    → ((position : ℕ) → position < count → test position ≡ true → test′ position ≡ true) → counted test count ≤ counted test′ count
+unfolding counted
+counted-fewer test test′ zero only = omega arith
+counted-fewer test test′ (suc count) only =
+    let before = counted-fewer test test′ count (λ position lt. only position (omega arith)) in
+    omega (arith, before, fewer (test count) (test′ count) (only count (omega arith)))
+
+-- so two tests that agree on the positions count the same
+pub counted-same : (test test′ : ℕ → Bool) (count : ℕ) → ((position : ℕ) → position < count → test position ≡ test′ position)
+    → counted test count ≡ counted test′ count
+counted-same test test′ count same =
+    omega (
+      arith,
+      counted-fewer test test′ count (λ position lt holds. sym (same position lt) ∙ holds),
+      counted-fewer test′ test count (λ position lt holds. same position lt ∙ holds),
+    )

@@ -1,18 +1,18 @@
 -- What crates above may rely on, beside the definitions of specs/: a score is at most L and at most the number of positions; it does not
--- matter which image comes first; an image against itself scores 0.
+-- matter which image comes first; an image against itself scores 0; how positions that pass a test count.
 -- Assumes nothing.
-use Prim.Native.Nat.{ℕ, zero, suc, _*_, _≤_}
+use Prim.Native.Nat.{ℕ, _≤_}
 use mathlib.Core.List.{List}
-use mathlib.Core.Path.{_≡_, refl}
+use mathlib.Core.Path.{_≡_, ap}
 use native.Mathlib.Omega.{arith}
+use lib.Dec.{ltb}
 use Rattle.refusals.specs.Call.{resultOf}
 use Rattle.refusals.proofs.Calls.{result-cases}
-use Rattle.image.specs.Pixels.{pixelBytes, pixelAt}
-use Rattle.image.specs.Reading.{numbersOf, rasterIn}
-use Rattle.score.specs.Changed.{apart, moved, changed}
-use Rattle.score.specs.declared.Answer.{Answer}
+use Rattle.image.specs.Reading.{positionsOf, pixelOf}
+use Rattle.score.specs.Changed.{apart, moved, movedAt, counted}
 use Rattle.score.specs.Calls.{scoreNumber, scoreCall}
-use Rattle.score.proofs.Counts.{changed-le, still-counts-not}
+use Rattle.score.proofs.Counts.{near-still}
+pub use Rattle.score.proofs.Counts.{counted-none, counted-more, counted-le, counted-nowhere, counted-fewer, counted-same}
 pub use Rattle.score.proofs.Refused.{none-alike}
 pub use Rattle.score.proofs.Demand1.{score-promised}
 
@@ -24,28 +24,27 @@ module _ (bound allowance : ℕ) (first second : List ℕ) where
       result-cases (λ r. r .value ≤ bound) (scoreCall bound allowance first second) (λ e. omega arith) (λ number e. omega arith)
 
   -- at most the number of positions
-  pub score-le-positions : resultOf (scoreCall bound allowance first second) .value ≤ numbersOf first .width * numbersOf first .height
+  pub score-le-positions : resultOf (scoreCall bound allowance first second) .value ≤ positionsOf first
   unfolding scoreCall scoreNumber
   score-le-positions =
-      let positions = numbersOf first .width * numbersOf first .height in
-      result-cases (λ r. r .value ≤ positions) (scoreCall bound allowance first second)
-      (λ e. omega (arith, changed-le allowance (pixelAt pixelBytes (rasterIn first)) (pixelAt pixelBytes (rasterIn second)) positions))
+      result-cases (λ r. r .value ≤ positionsOf first) (scoreCall bound allowance first second)
+      (λ e. omega (arith, counted-le (movedAt allowance (pixelOf first) (pixelOf second)) (positionsOf first)))
       (λ number e. omega arith)
+
+swapped : (x y : ℕ) → apart x y ≡ apart y x
+swapped x y = omega arith
+
+moved-either-way : (allowance x y : ℕ) → moved allowance x y ≡ moved allowance y x
+unfolding moved
+moved-either-way allowance x y = ap (ltb allowance) (swapped x y)
 
 -- the count is the same the other way round
 pub changed-either-way : (allowance : ℕ) (first second : ℕ → ℕ) (count : ℕ)
-    → changed allowance first second count ≡ changed allowance second first count
-unfolding changed moved
-changed-either-way allowance first second zero = refl
-changed-either-way allowance first second (suc count) =
-    rw (changed-either-way allowance first second count, swap (first count) (second count))
-  where
-    swap : (x y : ℕ) → apart x y ≡ apart y x
-    swap x y = omega arith
+    → counted (movedAt allowance first second) count ≡ counted (movedAt allowance second first) count
+changed-either-way allowance first second count =
+    counted-same _ _ count (λ position lt. moved-either-way allowance (first position) (second position))
 
 -- nothing changed between an image and itself
-pub changed-self : (allowance : ℕ) (pixel : ℕ → ℕ) (count : ℕ) → changed allowance pixel pixel count ≡ 0
-unfolding changed
-changed-self allowance pixel zero = refl
-changed-self allowance pixel (suc count) =
-    omega (arith, changed-self allowance pixel count, still-counts-not allowance (pixel count) (pixel count) (omega arith))
+pub changed-self : (allowance : ℕ) (pixel : ℕ → ℕ) (count : ℕ) → counted (movedAt allowance pixel pixel) count ≡ 0
+changed-self allowance pixel count =
+    counted-nowhere _ count (λ position lt. near-still allowance (pixel position) (pixel position) (omega arith))

@@ -1,5 +1,5 @@
 -- The score of two images: what is refused, in order, and the number that is given.
-use Prim.Native.Nat.{ℕ, _*_, min}
+use Prim.Native.Nat.{ℕ, min}
 use mathlib.Core.Bool.{not}
 use mathlib.Core.List.{List, [], _∷_}
 use mathlib.Core.Path.{_≡_}
@@ -8,10 +8,9 @@ use Rattle.refusals.specs.Numbers.{badBound, imagesDiffer}
 use Rattle.refusals.specs.First.{Fault, _gives_, passedOn, outside}
 use Rattle.refusals.specs.Call.{Call}
 use Rattle.image.specs.declared.Numbers.{Numbers}
-use Rattle.image.specs.Pixels.{pixelBytes, pixelAt}
-use Rattle.image.specs.Reading.{numbersOf, rasterIn}
+use Rattle.image.specs.Reading.{numbersOf, positionsOf, pixelOf}
 use Rattle.score.specs.declared.Answer.{Answer}
-use Rattle.score.specs.Changed.{changed}
+use Rattle.score.specs.Changed.{movedAt, counted}
 
 -- L is 1 to 65,535, as in a book
 abbrev pub largestBound : ℕ
@@ -33,9 +32,7 @@ scoreFaults bound one two =
 -- the number of positions whose pixels differ by more than the allowance, or L if that number is larger
 unfoldable pub scoreNumber : ℕ → ℕ → List ℕ → List ℕ → ℕ
 scoreNumber bound allowance first second =
-    let positions = numbersOf first .width * numbersOf first .height in
-    min bound
-    (changed allowance (pixelAt pixelBytes (rasterIn first)) (pixelAt pixelBytes (rasterIn second)) positions)
+    min bound (counted (movedAt allowance (pixelOf first) (pixelOf second)) (positionsOf first))
 
 -- the call: the score, or a refusal with the number 0; both images are lent only to be read
 unfoldable pub scoreCall : ℕ → ℕ → List ℕ → List ℕ → Call Answer (List ℕ × List ℕ)

@@ -1,18 +1,25 @@
--- How many positions of two images changed.
+-- Which positions of two images changed, and how many positions pass a test.
 use Prim.Native.Nat.{ℕ, zero, suc, _+_, _-_}
-use mathlib.Core.Bool.{cond}
+use mathlib.Core.Bool.{Bool, cond}
 use lib.Dec.{ltb}
 
 -- by how much two pixels differ
 abbrev pub apart : ℕ → ℕ → ℕ
 apart x y = (x - y) + (y - x)
 
--- 1 for pixels that differ by more than the allowance, else 0
-unfoldable pub moved : ℕ → ℕ → ℕ → ℕ
-moved allowance x y = cond (ltb allowance (apart x y)) 1 0
+-- whether two pixels differ by more than the allowance
+unfoldable pub moved : (allowance x y : ℕ) → Bool
+moved allowance x y = ltb allowance (apart x y)
 
--- how many of the first `count` positions have such pixels
-unfoldable pub changed : ℕ → (ℕ → ℕ) → (ℕ → ℕ) → ℕ → ℕ
-changed allowance first second zero = 0
-changed allowance first second (suc count) =
-    changed allowance first second count + moved allowance (first count) (second count)
+-- whether the pixels at a position do
+abbrev pub movedAt : (allowance : ℕ) (first second : ℕ → ℕ) → ℕ → Bool
+movedAt allowance first second position = moved allowance (first position) (second position)
+
+-- 1 where a test holds, else 0
+abbrev pub oneIf : Bool → ℕ
+oneIf holds = cond holds 1 0
+
+-- how many of the first `count` positions pass a test
+unfoldable pub counted : (test : ℕ → Bool) (count : ℕ) → ℕ
+counted test zero = 0
+counted test (suc count) = counted test count + oneIf (test count)

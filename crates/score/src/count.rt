@@ -2,8 +2,8 @@
 ghost use mathlib.Core.Path.{_≡_};
 ghost use Prim.Native.Nat.{_+_, _≤_, _<_, min};
 ghost use lib.ListN.{length};
-ghost use Rattle.image.specs.Pixels.{pixelBytes, pixelAt};
-ghost use Rattle.score.specs.Changed.{apart, moved, changed};
+ghost use Rattle.score.specs.Changed.{apart, moved, oneIf, counted};
+ghost use Rattle.score.specs.Bytes.{bytesMoved};
 
 fn apart(x: u8, y: u8) -> u8
     ensures { λ r. ⌜ r ≡ apart x y ⌝ }
@@ -13,7 +13,7 @@ fn apart(x: u8, y: u8) -> u8
 
 // 1 for pixels that differ by more than the allowance, else 0.
 fn moved(allowance: u8, x: u8, y: u8) -> u8
-    ensures { λ r. ⌜ r ≡ moved allowance x y ⌝ }
+    ensures { λ r. ⌜ r ≡ oneIf (moved allowance x y) ⌝ }
 {
     if allowance < apart(x, y) { 1 } else { 0 }
 }
@@ -30,7 +30,7 @@ fn block_end(from: usize, len: usize) -> usize
 // a sum; so few positions that 8 bits hold the sum, which lets a vector register take as many of them as it has bytes.
 fn changed_between(first: &[u8], second: &[u8], allowance: u8, from: usize, to: usize) -> u8
     requires { ⌜ (length (now first) ≡ length (now second)) × (from ≤ to) × (to ≤ length (now first)) × (to ≤ from + 255) ⌝ }
-    ensures { λ r. ⌜ changed allowance (pixelAt pixelBytes (now (first .entry))) (pixelAt pixelBytes (now (second .entry))) from + r ≡ changed allowance (pixelAt pixelBytes (now (first .entry))) (pixelAt pixelBytes (now (second .entry))) to ⌝ }
+    ensures { λ r. ⌜ counted (bytesMoved allowance (now (first .entry)) (now (second .entry))) from + r ≡ counted (bytesMoved allowance (now (first .entry)) (now (second .entry))) to ⌝ }
 {
     let mut count: u8 = 0;
     let mut i = from;
@@ -44,7 +44,7 @@ fn changed_between(first: &[u8], second: &[u8], allowance: u8, from: usize, to: 
 // The positions at which two rasters of one size changed, some at a time.
 pub(crate) fn changed(first: &[u8], second: &[u8], allowance: u8) -> u16
     requires { ⌜ (length (now first) ≡ length (now second)) × (length (now first) ≤ 24576) ⌝ }
-    ensures { λ r. ⌜ r ≡ changed allowance (pixelAt pixelBytes (now (first .entry))) (pixelAt pixelBytes (now (second .entry))) (length (now (first .entry))) ⌝ }
+    ensures { λ r. ⌜ r ≡ counted (bytesMoved allowance (now (first .entry)) (now (second .entry))) (length (now (first .entry))) ⌝ }
 {
     let mut count: u16 = 0;
     let mut i = 0;

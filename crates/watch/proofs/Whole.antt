@@ -1,17 +1,15 @@
 -- A run that gets its input in pieces writes the output of the whole input (ledger P.1): at each moment what is written, with the rows
 -- of all that is at hand and unread, is that output.
 -- Assumes nothing.
-use Prim.Native.Nat.{ℕ, zero, suc, _+_, _*_, _-_, _≤_, _<_}
-use native.Mathlib.Nat.{mul-le-mul}
+use Prim.Native.Nat.{ℕ, zero, suc, _+_, _-_, _≤_, _<_}
 use native.Mathlib.Omega.{arith}
 use mathlib.Core.Bool.{Bool, true, false, cond}
 use mathlib.Core.List.{List, [], _++_, append-assoc, append-nil}
 use mathlib.Core.Path.{_≡_, refl, sym, ap, _∙_}
-use lib.ListN.{length, take, drop, length-append, length-take, length-drop}
+use lib.ListN.{length, take, drop, length-append, length-drop}
 use lib.Dec.{eqb}
 use lib.Seq.{take-append-le, drop-append-le}
-use Rattle.image.specs.Reading.{numbersOf, rasterIn}
-use Rattle.image.proofs.Promises.{reading-lies, accepted-range, raster-length}
+use Rattle.image.proofs.Promises as images
 use Rattle.watch.specs.declared.State.{State}
 use Rattle.watch.specs.declared.Line.{Line}
 use Rattle.watch.specs.declared.Turn.{Turn}
@@ -21,15 +19,6 @@ use Rattle.watch.specs.Turn.{frameAfter, decidedOf, decidedRing, turnOf,
 use Rattle.watch.specs.Calls.{textOf, stepText}
 use Rattle.watch.specs.Output.{rowsFrom, firstState, firstRing, outputOf, Runs, begins, reads, turns}
 use Rattle.watch.proofs.Streaming.{Decides, row-decides, turn-decides, decided-used}
-
--- an accepted image takes a byte at least
-used-pos : (s : List ℕ) → numbersOf s .refusal ≡ 0 → 0 < numbersOf s .used
-used-pos s e =
-    let range = accepted-range s e in
-    let pixels : 1 * 1 ≤ numbersOf s .width * numbersOf s .height = mul-le-mul (range .width-low) (range .height-low) in
-    let raster : length (rasterIn s) ≤ numbersOf s .used =
-    rw (length-take (numbersOf s .used - numbersOf s .start) (drop (numbersOf s .start) s)) (omega arith) in
-    omega (arith, raster-length s e)
 
 -- a row over some bytes is the row over all, and takes some of them
 module _ (state : State) (ring last hand more : List ℕ) (line : Line) (row : turnOf state ring last hand false ≡ Row line) where
@@ -52,12 +41,12 @@ module _ (state : State) (ring last hand more : List ℕ) (line : Line) (row : t
       ∙ ap (λ (l : List ℕ). turnRing state ring last l false) (append-nil hand)
 
   pub used-there : line .used ≤ length hand
-  used-there = rw (decided-used state ring last hand line decided-row .1) (reading-lies hand .there)
+  used-there = rw (decided-used state ring last hand line decided-row .1) (images.reading-lies hand .there)
 
   pub used-some : 0 < line .used
   used-some =
       let u = decided-used state ring last hand line decided-row in
-      rw (u .1) (used-pos hand (u .0))
+      rw (u .1) (images.used-some hand (u .0))
 
 -- where the input is over, a row comes of an image that decides
 over-decided : (state : State) (ring last rest : List ℕ) (line : Line) → turnOf state ring last rest true ≡ Row line → decidedOf state ring last rest ≡ Row line
@@ -82,7 +71,7 @@ rows-enough (suc f) (suc g) state ring last rest hf hg =
     shorter : (line : Line) → turnOf state ring last rest true ≡ Row line → (n : ℕ) → length rest < suc n → length (drop (line .used) rest) < n
     shorter line e n h =
         let u = decided-used state ring last rest line (over-decided state ring last rest line e) in
-        rw (length-drop (line .used) rest, u .1) (omega (arith, used-pos rest (u .0), reading-lies rest .there))
+        rw (length-drop (line .used) rest, u .1) (omega (arith, images.used-some rest (u .0), images.reading-lies rest .there))
 
     by : (t : Turn) → turnOf state ring last rest true ≡ t
         → ((line : Line) → turnOf state ring last rest true ≡ Row line

@@ -8,11 +8,11 @@ use denote.Ref.{now}
 use Rattle.image.specs.declared.Numbers.{Numbers}
 use Rattle.image.specs.Part.{cut}
 use Rattle.image.specs.Promised.{Lies}
-use Rattle.image.proofs.Chain.{reading-lies}
+use Rattle.image.proofs.ReadingLies.{reading-lies}
 use Rattle.image.proofs.raster.Statement.{statement}
 use Rattle.image.proofs.raster.Tie as tie
 
-lies : (c : tie.After-header) → Lies (now (c .before .before .args .s)) (c .header .result)
+lies : (c : tie.After-header) → Lies (now (c .before .before .args .s)) (c .header .result .start) (c .header .result .used)
 lies c = rw (c .header .ensures) (reading-lies (now (c .before .before .args .s)))
 
 header-requires : tie.Need-header-requires

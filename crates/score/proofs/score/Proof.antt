@@ -3,10 +3,11 @@
 use borrow.Author.Needs.{needs}
 use Prim.Native.Nat.{ℕ}
 use mathlib.Core.List.{List}
-use mathlib.Core.Path.{_≡_, sym, subst, _∙_}
+use mathlib.Core.Path.{_≡_, sym, _∙_}
 use denote.Ref.{now}
 use Rattle.refusals.specs.First.{firstOf}
 use Rattle.refusals.proofs.Calls.{result-refused}
+use Rattle.image.specs.declared.Numbers.{Numbers}
 use Rattle.image.specs.Reading.{numbersOf}
 use Rattle.image.specs.Promised.{Lies}
 use Rattle.image.proofs.Promises.{reading-lies}
@@ -14,6 +15,10 @@ use Rattle.score.specs.Calls.{scoreFaults, scoreCall}
 use Rattle.score.proofs.Scored.{refusal-is, same-size, score-taken}
 use Rattle.score.proofs.score.Statement.{statement}
 use Rattle.score.proofs.score.Tie as tie
+
+-- an image lies in the bytes that it was read from
+lies-there : {n : Numbers} (s : List ℕ) → n ≡ numbersOf s → Lies s (n .start) (n .used)
+lies-there s e = rw e (reading-lies s)
 
 -- where the refusal is known: the arguments, and where the two rasters lie
 module _ (c : tie.After-refusal) where
@@ -32,11 +37,11 @@ module _ (c : tie.After-refusal) where
   abbrev second : List ℕ
   second = now (start .args .second)
 
-  first-lies : Lies first (c .before .before .header .result)
-  first-lies = subst (Lies first) (sym (c .before .before .header .ensures)) (reading-lies first)
+  first-lies : let n = c .before .before .header .result in Lies first (n .start) (n .used)
+  first-lies = lies-there first (c .before .before .header .ensures)
 
-  second-lies : Lies second (c .before .header2 .result)
-  second-lies = subst (Lies second) (sym (c .before .header2 .ensures)) (reading-lies second)
+  second-lies : let n = c .before .header2 .result in Lies second (n .start) (n .used)
+  second-lies = lies-there second (c .before .header2 .ensures)
 
   -- the refusal is that of the two readings
   judged : c .refusal .result ≡ firstOf (scoreFaults bound (numbersOf first) (numbersOf second))

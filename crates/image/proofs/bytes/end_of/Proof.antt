@@ -3,7 +3,7 @@
 use mathlib.Core.Path.{sym}
 use native.Mathlib.Omega.{arith}
 use denote.Ref.{now}
-use Rattle.image.proofs.Ahead.{end-over, end-short}
+use Rattle.image.proofs.NextSeen.{end-over, end-short}
 use Rattle.image.proofs.bytes.end_of.Statement.{statement}
 use Rattle.image.proofs.bytes.end_of.Tie as tie
 

@@ -7,8 +7,8 @@ use native.Mathlib.Omega.{arith}
 use native.Mathlib.Numerals.{add-one}
 use denote.Ref.{now}
 use lib.ListN.{getD}
-use Rattle.image.proofs.Ahead.{ahead-next, ahead-none, end-refuses}
-use Rattle.image.proofs.Steps.{told-found, told-stopped}
+use Rattle.image.proofs.NextSeen.{ahead-next, ahead-none, end-refuses}
+use Rattle.image.proofs.AnswersTell.{told-found, told-stopped}
 use Rattle.image.proofs.bytes.next.Statement.{statement}
 use Rattle.image.proofs.bytes.next.Tie as tie
 
@@ -21,7 +21,7 @@ stopped-requires c κs = search needs
 returns : tie.Need-returns
 returns c = let a = c .before .before .before .before .args in
     rw (c .stopped .ensures, c .before .end-of .ensures, ahead-none (now (a .s)) (a .used) (omega arith))
-    (told-stopped _ _ (end-refuses (now (a .s))))
+    (told-stopped _ _ (end-refuses (now (a .s))), omega arith)
 
 end-of-requires-2 : tie.Need-end-of-requires-2
 end-of-requires-2 c κs = search needs
@@ -33,7 +33,7 @@ returns-2 : tie.Need-returns-2
 returns-2 c = let p = c .before .before .before in
     let a = p .before .before .args in
     rw (c .stopped2 .ensures, c .before .end-of2 .ensures, ahead-none (now (a .s)) (a .used) (omega arith))
-    (told-stopped _ _ (end-refuses (now (a .s))))
+    (told-stopped _ _ (end-refuses (now (a .s))), omega arith)
 
 shared-slice-read-t8 : tie.Need-shared-slice-read-t8
 shared-slice-read-t8 c = search needs
@@ -45,9 +45,11 @@ add-t9 : tie.Need-add-t9
 add-t9 c = search needs
 
 returns-3 : tie.Need-returns-3
-returns-3 c = let a = c .before .before .before .before .args in
-    rw (ahead-next (now (a .s)) (a .used) (omega arith) (omega arith), sym (add-one (a .used)))
-    (told-found (now (a .s)) (record { refusal = 0; value = getD (now (a .s)) (a .used) 0; used = a .used + 1 }) refl)
+returns-3 c = let a = c .before .before .before .before .args in (
+  rw (ahead-next (now (a .s)) (a .used) (omega arith) (omega arith), sym (add-one (a .used)))
+      (told-found (now (a .s)) (record { refusal = 0; value = getD (now (a .s)) (a .used) 0; used = a .used + 1 }) refl),
+  omega arith,
+)
 
 pub next-spec : {M : Type 1} → statement M
 next-spec =

@@ -2,7 +2,7 @@
 -- Assumes nothing.
 use borrow.Author.Needs.{needs}
 use native.Mathlib.Omega.{arith}
-use Rattle.image.proofs.Steps.{digit-range}
+use Rattle.decimals.proofs.WritesAndReads.{digit-range}
 use Rattle.image.proofs.fields.grown.Statement.{statement}
 use Rattle.image.proofs.fields.grown.Tie as tie
 

@@ -2,8 +2,8 @@
 -- Assumes nothing.
 use mathlib.Core.Path.{sym}
 use borrow.Author.Tests.{eq-eqb, ne-eqb}
-use Rattle.image.specs.Fields.{white}
-use Rattle.image.proofs.Steps.{white-last}
+use Rattle.image.specs.Bytes.{white}
+use Rattle.image.proofs.KindsOfBytes.{white-last}
 use Rattle.image.proofs.fields.is_white.Statement.{statement}
 use Rattle.image.proofs.fields.is_white.Tie as tie
 

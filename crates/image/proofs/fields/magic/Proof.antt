@@ -7,10 +7,11 @@ use mathlib.Core.Path.{_≡_, sym, _∙_}
 use borrow.Author.Tests.{eq-eqb, ne-eqb}
 use lib.Dec.{eqb}
 use denote.Ref.{now}
+use Rattle.image.specs.Bytes.{letterP, white}
 use Rattle.image.specs.Seen.{ahead, endOf}
 use Rattle.image.specs.Step.{found}
-use Rattle.image.specs.Fields.{white, oneOf, magic}
-use Rattle.image.proofs.Steps.{told-found, told-stopped, told-wrong, kind-none, kind-found, kind-wrong}
+use Rattle.image.specs.Fields.{oneOf, magic}
+use Rattle.image.proofs.AnswersTell.{told-found, told-stopped, told-wrong, kind-none, kind-found, kind-wrong}
 use Rattle.image.proofs.fields.magic.Statement.{statement}
 use Rattle.image.proofs.fields.magic.Tie as tie
 
@@ -23,11 +24,13 @@ module _ (c : tie.Else2) where
   abbrev first : tie.After-next
   first = c .before .before .before .before
 
-  abbrev kind : ℕ
-  kind = first .before .before .args .kind
+  abbrev sign : ℕ
+  sign = first .before .before .args .sign
 
-  is-p : let n = first .next .result in oneOf (eqb 80) (endOf (bytes first)) (ahead (bytes first) 0) ≡ found (n .value) (n .used) (ahead (bytes first) (n .used))
-  is-p = kind-found (eqb 80) _ _ (first .next .result) (first .next .ensures) (c .before .before .if1 .left) (eq-eqb _ _ (sym (c .if2 .left)))
+  is-p : let s = bytes first in let n = first .next .result in
+      oneOf (eqb letterP) (endOf s) (ahead s 0) ≡ found (n .value) (n .used) (ahead s (n .used))
+  is-p = let n = first .next in
+      kind-found (eqb letterP) _ _ (n .result) (n .ensures .0) (c .before .before .if1 .left) (eq-eqb _ _ (sym (c .if2 .left)))
 
 -- and the second says the kind
 module _ (c : tie.Else4) where
@@ -38,11 +41,11 @@ module _ (c : tie.Else4) where
   lent = bytes (first (second .before))
 
   -- all is up to the third
-  reads : magic (endOf lent) (kind (second .before)) (ahead lent 0) ≡ oneOf white (endOf lent) (ahead lent (second .next2 .result .used))
+  reads : magic (endOf lent) (sign (second .before)) (ahead lent 0) ≡ oneOf white (endOf lent) (ahead lent (second .next2 .result .used))
   unfolding magic
   reads = let n = second .next2 in
-      let says = kind-found (eqb (kind (second .before))) _ _ (n .result) (n .ensures) (c .before .before .if3 .left) (eq-eqb _ _ (sym (c .if4 .left))) in
-      rw (is-p (second .before), says)
+      let is-sign = eq-eqb _ _ (sym (c .if4 .left)) in
+      rw (is-p (second .before), kind-found (eqb (sign (second .before))) _ _ (n .result) (n .ensures .0) (c .before .before .if3 .left) is-sign)
 
 next-requires : tie.Need-next-requires
 next-requires c κs = search needs
@@ -50,7 +53,7 @@ next-requires c κs = search needs
 returns : tie.Need-returns
 unfolding magic
 returns c = let n = c .before .before .next in
-    rw (kind-none (eqb 80) _ _ (n .result) (n .ensures) (c .if1 .taken)) (told-stopped _ (n .result) (c .if1 .taken))
+    rw (kind-none (eqb letterP) _ _ (n .result) (n .ensures .0) (c .if1 .taken)) (told-stopped _ (n .result) (c .if1 .taken))
 
 stopped-requires : tie.Need-stopped-requires
 stopped-requires c κs = search needs
@@ -59,8 +62,8 @@ returns-2 : tie.Need-returns-2
 unfolding magic
 returns-2 c = let p = c .before .before .before in
     let n = p .before .before .next in
-    let other = ne-eqb 80 (n .result .value) (λ e. c .before .if2 .taken (sym e)) in
-    rw (kind-wrong (eqb 80) _ _ (n .result) (n .ensures) (p .if1 .left) other, c .stopped .ensures) (told-wrong _)
+    let other = ne-eqb letterP (n .result .value) (λ e. c .before .if2 .taken (sym e)) in
+    rw (kind-wrong (eqb letterP) _ _ (n .result) (n .ensures .0) (p .if1 .left) other, c .stopped .ensures) (told-wrong _)
 
 next-requires-2 : tie.Need-next-requires-2
 next-requires-2 c κs = search needs
@@ -69,7 +72,7 @@ returns-3 : tie.Need-returns-3
 unfolding magic
 returns-3 c = let n = c .before .before .next2 in
     let p = c .before .before .before in
-    rw (is-p p, kind-none (eqb (kind p)) _ _ (n .result) (n .ensures) (c .if3 .taken)) (told-stopped _ (n .result) (c .if3 .taken))
+    rw (is-p p, kind-none (eqb (sign p)) _ _ (n .result) (n .ensures .0) (c .if3 .taken)) (told-stopped _ (n .result) (c .if3 .taken))
 
 stopped-requires-2 : tie.Need-stopped-requires-2
 stopped-requires-2 c κs = search needs
@@ -79,15 +82,16 @@ unfolding magic
 returns-4 c = let there = c .before .before .before in
     let n = there .before .before .next2 in
     let p = there .before .before .before in
-    let other = ne-eqb (kind p) (n .result .value) (λ e. c .before .if4 .taken (sym e)) in
-    rw (is-p p, kind-wrong (eqb (kind p)) _ _ (n .result) (n .ensures) (there .if3 .left) other, c .stopped2 .ensures) (told-wrong _)
+    let other = ne-eqb (sign p) (n .result .value) (λ e. c .before .if4 .taken (sym e)) in
+    rw (is-p p, kind-wrong (eqb (sign p)) _ _ (n .result) (n .ensures .0) (there .if3 .left) other, c .stopped2 .ensures) (told-wrong _)
 
 next-requires-3 : tie.Need-next-requires-3
 next-requires-3 c κs = search needs
 
 returns-5 : tie.Need-returns-5
 returns-5 c = let n = c .before .before .next3 in
-    rw (reads (c .before .before .before), kind-none white _ _ (n .result) (n .ensures) (c .if5 .taken)) (told-stopped _ (n .result) (c .if5 .taken))
+    rw (reads (c .before .before .before), kind-none white _ _ (n .result) (n .ensures .0) (c .if5 .taken))
+    (told-stopped _ (n .result) (c .if5 .taken))
 
 is-white-requires : tie.Need-is-white-requires
 is-white-requires c κs = search needs
@@ -96,7 +100,8 @@ returns-6 : tie.Need-returns-6
 returns-6 c = let there = c .before .before in
     let n = there .before .before .next3 in
     let w = sym (c .before .is-white .ensures) ∙ c .if6 .taken in
-    rw (reads (there .before .before .before), kind-found white _ _ (n .result) (n .ensures) (there .if5 .left) w) (told-found _ (n .result) (there .if5 .left))
+    rw (reads (there .before .before .before), kind-found white _ _ (n .result) (n .ensures .0) (there .if5 .left) w)
+    (told-found _ (n .result) (there .if5 .left))
 
 stopped-requires-3 : tie.Need-stopped-requires-3
 stopped-requires-3 c κs = search needs
@@ -105,7 +110,8 @@ returns-7 : tie.Need-returns-7
 returns-7 c = let there = c .before .before .before in
     let n = there .before .before .next3 in
     let w = sym (c .before .before .is-white .ensures) ∙ c .before .if6 .left in
-    rw (reads (there .before .before .before), kind-wrong white _ _ (n .result) (n .ensures) (there .if5 .left) w, c .stopped3 .ensures) (told-wrong _)
+    rw (reads (there .before .before .before), kind-wrong white _ _ (n .result) (n .ensures .0) (there .if5 .left) w, c .stopped3 .ensures)
+    (told-wrong _)
 
 pub magic-spec : {M : Type 1} → statement M
 magic-spec =

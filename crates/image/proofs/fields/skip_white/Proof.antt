@@ -1,13 +1,13 @@
 -- `image::fields::skip_white` meets its contract: what is ahead, white bytes passed over, stays the same from turn to turn.
 -- Assumes nothing.
-use mathlib.Core.List.{_∷_}
 use mathlib.Core.Path.{_≡_, refl, sym, ap, _∙_}
 use native.Mathlib.Omega.{arith}
 use denote.Ref.{now}
 use lib.ListN.{length}
 use Rattle.image.specs.Seen.{ahead}
 use Rattle.image.specs.Fields.{afterWhite}
-use Rattle.image.proofs.Steps.{Taken, next-some, next-none, white-none, white-more, white-over}
+use Rattle.image.proofs.FieldsOfBytes.{white-none, white-more, white-over}
+use Rattle.image.proofs.AnswersTell.{Taken, next-some, next-none}
 use Rattle.image.proofs.fields.skip_white.Statement.{statement}
 use Rattle.image.proofs.fields.skip_white.Tie as tie
 
@@ -23,7 +23,7 @@ module _ (c : tie.Else1 Inv-loop μ-loop) where
   turn = c .before .before .before
 
   there : let s = now (turn .before .before .args .s) in Taken s (ahead s (turn .loop .at)) (c .before .before .next .result)
-  there = next-some _ _ _ (c .before .before .next .result) (c .before .before .next .ensures) (c .if1 .left)
+  there = next-some _ _ _ (c .before .before .next .result) (c .before .before .next .ensures .0) (c .if1 .left)
 
 loop-holds : tie.Need-loop-holds Inv-loop μ-loop
 loop-holds c = refl
@@ -33,7 +33,7 @@ next-requires c κs = tt
 
 returns : tie.Need-returns Inv-loop μ-loop
 returns c = let n = c .before .before .next in
-    white-none (next-none _ _ _ (n .result) (n .ensures) (c .if1 .taken)) ∙ c .before .before .before .loop .inv
+    white-none (next-none _ _ _ (n .result) (n .ensures .0) (c .if1 .taken)) ∙ c .before .before .before .loop .inv
 
 is-white-requires : tie.Need-is-white-requires Inv-loop μ-loop
 is-white-requires c κs = tt

@@ -1,52 +1,67 @@
--- `image::pixels::largest_of` meets its contract: the halves are all pixels, or all but one.
+-- `image::pixels::largest_of` meets its contract: behind the quarters it has the largest of the first i pixels.
 -- Assumes nothing.
-use Prim.Native.Nat.{_+_, _/_}
+use Prim.Native.Nat.{_-_, _≤_}
 use mathlib.Core.Path.{_≡_, sym, ap, _∙_}
 use native.Mathlib.Omega.{arith}
 use denote.Ref.{now}
 use lib.ListN.{length}
-use Rattle.image.specs.Pixels.{pixelBytes, pixelAt, largest}
-use Rattle.image.proofs.Largest.{pixel-one, largest-on}
-use borrow.Author.Needs.{needs}
+use Rattle.image.specs.Pixels.{pixelAt}
+use Rattle.image.specs.Told.{largest}
+use Rattle.image.proofs.LargestPixel.{pixel-one, largest-on}
 use Rattle.image.proofs.pixels.largest_of.Statement.{statement}
 use Rattle.image.proofs.pixels.largest_of.Tie as tie
 
-largest-of-halves-requires : tie.Need-largest-of-halves-requires
-largest-of-halves-requires c κs = search needs
+abbrev Inv-loop : tie.InvT-loop
+Inv-loop raster quarter most₀ i₀ most i = (i ≤ length raster) × (most ≡ largest (pixelAt 1 raster) i)
 
-add-if1 : tie.Need-add-if1
-add-if1 c = search needs
+abbrev μ-loop : tie.MeasureT-loop
+μ-loop raster quarter most₀ i₀ most i = length raster - i
 
-returns : tie.Need-returns
-returns c = let pixel = pixelAt pixelBytes (now (c .before .before .before .args .raster)) in
-    c .before .largest-of-halves .ensures ∙ ap (largest pixel) (c .if1 .taken)
+largest-of-quarters-requires : tie.Need-largest-of-quarters-requires Inv-loop μ-loop
+largest-of-quarters-requires c κs = omega arith
 
-add-larger : tie.Need-add-larger
-add-larger c = search needs
+mul-i : tie.Need-mul-i Inv-loop μ-loop
+mul-i c = omega arith
 
-shared-slice-read-larger : tie.Need-shared-slice-read-larger
-shared-slice-read-larger c = search needs
+loop-holds : tie.Need-loop-holds Inv-loop μ-loop
+loop-holds c = (omega arith, c .largest-of-quarters .ensures)
 
-larger-requires : tie.Need-larger-requires
-larger-requires c κs = search needs
+shared-slice-read-larger : tie.Need-shared-slice-read-larger Inv-loop μ-loop
+shared-slice-read-larger c = omega arith
 
-returns-2 : tie.Need-returns-2
-returns-2 c = let p = c .before .before .before in
-    let raster = now (p .before .before .args .raster) in
-    let half = length raster / 2 in
-    let pixel = pixelAt pixelBytes raster in
-    let all : half + half + 1 ≡ length raster = omega arith in
-    largest-on pixel (half + half) (c .larger .ensures) (p .largest-of-halves .ensures) (sym (pixel-one raster (half + half)))
-    ∙ ap (largest pixel) all
+larger-requires : tie.Need-larger-requires Inv-loop μ-loop
+larger-requires c κs = tt
+
+add-i : tie.Need-add-i Inv-loop μ-loop
+add-i c = omega arith
+
+loop-less : tie.Need-loop-less Inv-loop μ-loop
+loop-less c = omega arith
+
+loop-again : tie.Need-loop-again Inv-loop μ-loop
+loop-again c = let turn = c .before .before .before in
+    let l = turn .loop in
+    let raster = now (turn .before .before .before .args .raster) in
+    (omega arith, largest-on (pixelAt 1 raster) (l .i) (c .larger .ensures) (l .inv .1) (sym (pixel-one raster (l .i))))
+
+returns : tie.Need-returns Inv-loop μ-loop
+returns c = let l = c .before .loop in
+    let raster = now (c .before .before .before .before .args .raster) in
+    let all : l .i ≡ length raster = omega arith in
+    l .inv .1 ∙ ap (largest (pixelAt 1 raster)) all
 
 pub largest-of-spec : {M : Type 1} → statement M
 largest-of-spec =
     tie.close
     (tie.spec
-    largest-of-halves-requires
-    add-if1
-    returns
-    add-larger
+    Inv-loop
+    μ-loop
+    largest-of-quarters-requires
+    mul-i
+    loop-holds
     shared-slice-read-larger
     larger-requires
-    returns-2)
+    add-i
+    loop-less
+    loop-again
+    returns)

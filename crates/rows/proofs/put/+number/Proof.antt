@@ -6,9 +6,9 @@ use mathlib.Core.Path.{_≡_, sym, ap, subst, _∙_}
 use native.Mathlib.Omega.{arith}
 use denote.Ref.{now}
 use lib.ListN.{length, length-append}
-use Rattle.rows.specs.Decimal.{digitByte, decimal}
+use Rattle.decimals.specs.Decimal.{digitByte, decimal}
 use Rattle.rows.specs.Appended.{Appended}
-use Rattle.rows.proofs.Digits.{decimal-small, decimal-large}
+use Rattle.decimals.proofs.Digits.{decimal-small, decimal-large}
 use Rattle.rows.proofs.Writing.{appended-then}
 use Prim.Native.Nat.{ℕ, _+_, _/_, _%_, _≤_, _<_}
 use borrow.Fn.Kinds.{In}

@@ -5,9 +5,9 @@ use Prim.Native.Nat.{_≤_}
 use mathlib.Core.List.{[], _∷_}
 use native.Mathlib.Omega.{arith}
 use lib.ListN.{length}
-use Rattle.rows.specs.Decimal.{decimal}
-use Rattle.rows.specs.Row.{fieldText}
-use Rattle.rows.proofs.Digits.{decimal-20}
+use Rattle.decimals.specs.Decimal.{decimal}
+use Rattle.rows.specs.Row.{comma, fieldText}
+use Rattle.decimals.proofs.Digits.{decimal-20}
 use Rattle.rows.proofs.Writing.{appended-then}
 use Rattle.rows.proofs.put.field.Statement.{statement}
 use Rattle.rows.proofs.put.field.Tie as tie
@@ -32,10 +32,10 @@ same-length c = search needs
 
 returns : tie.Need-returns
 unfolding fieldText
-returns c = let comma = c .before .before in
-    let wrote = comma .before .before .before .before in (
-      appended-then (decimal (start wrote .args .n)) (44 ∷ []) (wrote .number .ensures) (comma .byte .ensures),
-      omega (arith, wrote .number .ensures .moved, comma .byte .ensures .moved, digits wrote),
+returns c = let last = c .before .before in
+    let wrote = last .before .before .before .before in (
+      appended-then (decimal (start wrote .args .n)) (comma ∷ []) (wrote .number .ensures) (last .byte .ensures),
+      omega (arith, wrote .number .ensures .moved, last .byte .ensures .moved, digits wrote),
     )
 
 pub field-spec : {M : Type 1} → statement M

@@ -5,9 +5,9 @@ use Prim.Native.Nat.{ℕ, _≤_}
 use mathlib.Core.List.{List, [], _∷_, _++_}
 use native.Mathlib.Omega.{arith}
 use lib.ListN.{length}
-use Rattle.rows.specs.Decimal.{decimal}
-use Rattle.rows.specs.Row.{fieldText, refusedText}
-use Rattle.rows.proofs.Digits.{decimal-20}
+use Rattle.decimals.specs.Decimal.{decimal}
+use Rattle.rows.specs.Row.{comma, carriageReturn, lineFeed, fieldText, refusedText}
+use Rattle.decimals.proofs.Digits.{decimal-20}
 use Rattle.rows.proofs.Writing.{appended-then}
 use Rattle.rows.proofs.put.refused.Statement.{statement}
 use Rattle.rows.proofs.put.refused.Tie as tie
@@ -70,7 +70,7 @@ returns c = let commas = c .before .before in
     let word = word-of n in
     let a = start word .args in
     let refused : List ℕ = 114 ∷ 101 ∷ 102 ∷ 117 ∷ 115 ∷ 101 ∷ 100 ∷ 32 ∷ [] in
-    let empty : List ℕ = 44 ∷ 44 ∷ 44 ∷ 13 ∷ 10 ∷ [] in
+    let empty : List ℕ = comma ∷ comma ∷ comma ∷ carriageReturn ∷ lineFeed ∷ [] in
     appended-then (fieldText (a .frame)) (refused ++ (decimal (a .refusal) ++ empty)) (field word .field .ensures .0)
     (appended-then refused (decimal (a .refusal) ++ empty) (word .text .ensures)
     (appended-then (decimal (a .refusal)) empty (n .number .ensures) (commas .text2 .ensures)))

@@ -1,26 +1,27 @@
 -- `score::count::changed` meets its contract: before each block the count is that of the positions before it.
 -- Assumes nothing.
 use Prim.Native.Nat.{ℕ, _+_, _-_, _≤_}
+use mathlib.Core.Bool.{Bool}
 use mathlib.Core.Path.{_≡_, sym, ap, _∙_}
 use native.Mathlib.Omega.{arith}
 use denote.Ref.{now}
 use lib.ListN.{length}
-use Rattle.image.specs.Pixels.{pixelBytes, pixelAt}
-use Rattle.score.specs.Changed.{changed}
-use Rattle.score.proofs.Counts.{changed-none, changed-le}
+use Rattle.score.specs.Changed.{counted}
+use Rattle.score.specs.Bytes.{bytesMoved}
+use Rattle.score.proofs.Counts.{counted-none, counted-le}
 use Rattle.score.proofs.count.changed.Statement.{statement}
 use Rattle.score.proofs.count.changed.Tie as tie
 
 abbrev Inv-loop : tie.InvT-loop
 Inv-loop first second allowance count₀ i₀ count i =
-    (i ≤ length first) × (count ≡ changed allowance (pixelAt pixelBytes first) (pixelAt pixelBytes second) i)
+    (i ≤ length first) × (count ≡ counted (bytesMoved allowance first second) i)
 
 abbrev μ-loop : tie.MeasureT-loop
 μ-loop first second allowance count₀ i₀ count i = length first - i
 
 loop-holds : tie.Need-loop-holds Inv-loop μ-loop
 loop-holds c = let a = c .before .before .args in
-    (omega arith, sym (changed-none (a .allowance) (pixelAt pixelBytes (now (a .first))) (pixelAt pixelBytes (now (a .second)))))
+    (omega arith, sym (counted-none (bytesMoved (a .allowance) (now (a .first)) (now (a .second)))))
 
 block-end-requires : tie.Need-block-end-requires Inv-loop μ-loop
 block-end-requires c κs = omega arith
@@ -39,19 +40,14 @@ module _ (c : tie.After-changed-between Inv-loop μ-loop) where
   abbrev start : tie.Start Inv-loop μ-loop
   start = turn .before .before .before
 
-  abbrev changed-to : ℕ → ℕ
-  changed-to = changed (start .args .allowance) (pixelAt pixelBytes (now (start .args .first))) (pixelAt pixelBytes (now (start .args .second)))
+  abbrev test : ℕ → Bool
+  test = bytesMoved (start .args .allowance) (now (start .args .first)) (now (start .args .second))
 
-  with-block : turn .loop .count + c .changed-between .result ≡ changed-to (c .before .block-end .result)
+  with-block : turn .loop .count + c .changed-between .result ≡ counted test (c .before .block-end .result)
   with-block = ap (λ n. n + c .changed-between .result) (turn .loop .inv .1) ∙ c .changed-between .ensures
 
 add-count : tie.Need-add-count Inv-loop μ-loop
-add-count c = let a = start c .args in
-    omega (
-      arith,
-      with-block c,
-      changed-le (a .allowance) (pixelAt pixelBytes (now (a .first))) (pixelAt pixelBytes (now (a .second))) (c .before .block-end .result),
-    )
+add-count c = omega (arith, with-block c, counted-le (test c) (c .before .block-end .result))
 
 loop-less : tie.Need-loop-less Inv-loop μ-loop
 loop-less c = omega arith
@@ -62,7 +58,7 @@ loop-again c = (omega arith, with-block c)
 returns : tie.Need-returns Inv-loop μ-loop
 returns c = let t = c .before in let a = t .before .before .before .args in let l = t .loop in
     let all : l .i ≡ length (now (a .first)) = omega arith in
-    l .inv .1 ∙ ap (changed (a .allowance) (pixelAt pixelBytes (now (a .first))) (pixelAt pixelBytes (now (a .second)))) all
+    l .inv .1 ∙ ap (counted (bytesMoved (a .allowance) (now (a .first)) (now (a .second)))) all
 
 pub changed-spec : {M : Type 1} → statement M
 changed-spec =

@@ -1,22 +1,21 @@
 -- `score::count::changed_between` meets its contract: at position i the count is that of the positions from `from` up to i, and at most
 -- as many as they are.
 -- Assumes nothing.
-use Prim.Native.Nat.{_+_, _-_, _≤_}
+use Prim.Native.Nat.{ℕ, _+_, _-_, _≤_}
+use mathlib.Core.Bool.{Bool}
 use mathlib.Core.Path.{_≡_, ap, _∙_}
 use native.Mathlib.Omega.{arith}
 use denote.Ref.{now}
-use Rattle.image.specs.Pixels.{pixelBytes, pixelAt}
-use Rattle.image.proofs.Promises.{pixel-one}
-use Rattle.score.specs.Changed.{moved, changed}
-use Rattle.score.proofs.Counts.{moved-le, changed-on}
+use Rattle.score.specs.Changed.{counted}
+use Rattle.score.specs.Bytes.{bytesMoved}
+use Rattle.score.proofs.Counts.{one-at-most, counted-on}
 use Rattle.score.proofs.count.changed_between.Statement.{statement}
 use Rattle.score.proofs.count.changed_between.Tie as tie
 
 abbrev Inv-loop : tie.InvT-loop
 Inv-loop first second allowance from to count₀ i₀ count i =
     (i ≤ to) × (from + count ≤ i)
-    × (changed allowance (pixelAt pixelBytes first) (pixelAt pixelBytes second) from + count
-    ≡ changed allowance (pixelAt pixelBytes first) (pixelAt pixelBytes second) i)
+    × (counted (bytesMoved allowance first second) from + count ≡ counted (bytesMoved allowance first second) i)
 
 abbrev μ-loop : tie.MeasureT-loop
 μ-loop first second allowance from to count₀ i₀ count i = to - i
@@ -29,8 +28,11 @@ module _ (c : tie.After-moved Inv-loop μ-loop) where
   abbrev start : tie.Start Inv-loop μ-loop
   start = turn .before .before .before
 
+  abbrev test : ℕ → Bool
+  test = bytesMoved (start .args .allowance) (now (start .args .first)) (now (start .args .second))
+
   one : c .moved .result ≤ 1
-  one = rw (c .moved .ensures) (moved-le (start .args .allowance) _ _)
+  one = rw (c .moved .ensures) (one-at-most (test (turn .loop .i)))
 
 loop-holds : tie.Need-loop-holds Inv-loop μ-loop
 loop-holds c = (omega arith, omega arith, omega arith)
@@ -54,17 +56,16 @@ loop-less : tie.Need-loop-less Inv-loop μ-loop
 loop-less c = omega arith
 
 loop-again : tie.Need-loop-again Inv-loop μ-loop
-loop-again c = let a = start c .args in let l = turn c .loop in (
+loop-again c = let l = turn c .loop in (
   omega arith,
   omega (arith, one c),
-  changed-on (a .allowance) (pixelAt pixelBytes (now (a .first))) (pixelAt pixelBytes (now (a .second))) (a .from) (l .count) (l .i) (c .moved .result) (l .inv .2)
-      (rw (pixel-one (now (a .first)) (l .i), pixel-one (now (a .second)) (l .i)) (c .moved .ensures)),
+  counted-on (test c) (start c .args .from) (l .count) (l .i) (c .moved .result) (l .inv .2) (c .moved .ensures),
 )
 
 returns : tie.Need-returns Inv-loop μ-loop
 returns c = let t = c .before in let a = t .before .before .before .args in let l = t .loop in
     let all : l .i ≡ a .to = omega arith in
-    l .inv .2 ∙ ap (changed (a .allowance) (pixelAt pixelBytes (now (a .first))) (pixelAt pixelBytes (now (a .second)))) all
+    l .inv .2 ∙ ap (counted (bytesMoved (a .allowance) (now (a .first)) (now (a .second)))) all
 
 pub changed-between-spec : {M : Type 1} → statement M
 changed-between-spec =

@@ -1,4 +1,5 @@
 -- What a reader sees ahead: one byte more, or none, and the refusal for a byte that is not there.
+-- Here, and for the text of a header in PlainBytes, it is used that there are no comments; nowhere else.
 -- Assumes nothing.
 use Prim.Native.Nat.{ℕ, suc, _≤_, _<_, min}
 use mathlib.Core.Bool.{Bool, true, false, cond}
@@ -10,19 +11,19 @@ use lib.Dec.{leb}
 use lib.ListN.{length, take, getD, length-take, drop-of-length-le}
 use lib.Seq.{drop-cons, getD-take}
 use Rattle.refusals.specs.Numbers.{imageTooLarge, endsTooEarly}
-use Rattle.image.specs.Seen.{limit, tagged, ahead, endOf}
+use Rattle.image.specs.Seen.{limit, comments, visible, ahead, endOf}
 
 -- a byte that is there
 pub ahead-next : (s : List ℕ) (used : ℕ) → used < length s → used < limit
     → ahead s used ≡ record { byte = getD s used 0; upto = suc used } ∷ ahead s (suc used)
-unfolding ahead tagged
+unfolding ahead visible comments
 ahead-next s used there below =
     let within : used < length (take limit s) = rw (length-take limit s) (omega arith) in
     rw (drop-cons (take limit s) used 0 within, getD-take limit s used 0 below)
 
 -- none: the slice or the limit ends here
 pub ahead-none : (s : List ℕ) (used : ℕ) → min limit (length s) ≤ used → ahead s used ≡ []
-unfolding ahead tagged
+unfolding ahead visible
 ahead-none s used over =
     let past : length (take limit s) ≤ used = rw (length-take limit s) over in
     rw (drop-of-length-le (take limit s) past)

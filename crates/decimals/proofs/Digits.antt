@@ -1,14 +1,14 @@
 -- Decimal digits: one for a number below 10, and one more than its tenth has for any other; at most 20 for 64 bits.
 -- Assumes nothing.
-use Prim.Native.Nat.{ℕ, zero, suc, _+_, _*_, _/_, _%_, _^_, _≤_, _<_}
+use Prim.Native.Nat.{ℕ, zero, suc, _+_, _/_, _%_, _^_, _≤_, _<_}
 use native.Mathlib.Nat.{pow-suc}
 use native.Mathlib.Decide.{decLt}
 use native.Mathlib.Omega.{arith}
 use mathlib.Core.List.{List, [], _∷_, _++_}
-use mathlib.Core.Path.{_≡_, refl, sym, ap, _∙_}
+use mathlib.Core.Path.{_≡_, refl, ap}
 use borrow.Author.Tests.{lt-ltb, le-ltb}
 use lib.ListN.{length, length-append}
-use Rattle.rows.specs.Decimal.{digitByte, decimalWithin, decimal}
+use Rattle.decimals.specs.Decimal.{digitByte, decimalWithin, decimal}
 
 -- more steps than the number counts change nothing
 enough : (s t n : ℕ) → n ≤ s → n ≤ t → decimalWithin s n ≡ decimalWithin t n
