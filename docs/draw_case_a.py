@@ -1,5 +1,5 @@
 #!/usr/bin/env python3
-"""Draws docs/case-a.svg: paper 01's case A, its blocks, its ring and its figures beside the true totals.
+"""Draws docs/case-a.svg: case A of docs/SCOPE.md, its blocks, its ring and its figures beside the true totals.
 
 Run at the project's root: python3 docs/draw_case_a.py
 """

@@ -10,13 +10,14 @@
  *   - while a call runs, nobody else writes those bytes, and bytes lent for writing overlap no others that are lent to that call.
  *
  * What you may leave to us: everything else. Any number, any record, any ring bytes, any image and any length get an answer, and every
- * answer is proved to be the one that the scope of work lays down. A refusal comes as a number above 0; then the other numbers of the
- * answer are 0, the record is handed back as it came (opening hands back zeros), and no lent byte has changed. Where several refusals
- * apply, the first in the order given at the function is the one.
+ * answer is proved to be the one that the library's definitions lay down (docs/SCOPE.md has them in words). A refusal comes as a number
+ * above 0; then the other numbers of the answer are 0, the record is handed back as it came (opening hands back zeros), and no lent byte
+ * has changed. Where several refusals apply, the first in the order given at the function is the one.
  *
- * A book from a good start is one that uprzezar_open opened, whose latest record is handed in, with a ring that nothing else has changed.
- * What is said below of true totals holds for such a book. Any other record, or ring, still gets the one answer that is laid down for it;
- * only, that answer says nothing of the items that were added.
+ * A book from a good start is one that uprzezar_open opened without a refusal; each call since has got the latest record, and the
+ * ring as the last call left it, changed by nothing else (no call of the ring alone, no second book in it).
+ * What is said below of true totals, and of what a window truly holds, holds for such a book, over the items that uprzezar_add accepted.
+ * Any other record, or ring, still gets the one answer that is laid down for it; only, that answer says nothing of the items.
  */
 #ifndef UPRZEZAR_H
 #define UPRZEZAR_H
@@ -36,25 +37,25 @@ enum {
     UPRZEZAR_BAD_TOLERANCE = 3,    /* the tolerance is 0, or above length times bound */
     UPRZEZAR_RING_TOO_SHORT = 4,   /* the ring has too few bytes */
     UPRZEZAR_WINDOW_TOO_LONG = 5,  /* the window is longer than what is kept */
-    UPRZEZAR_ZERO_ASKED = 6,       /* an amount of 0, or a verdict for a window of 0 */
+    UPRZEZAR_ZERO_ASKED = 6,       /* the amount is 0, or the window of a verdict is */
     UPRZEZAR_ITEM_TOO_LARGE = 7,   /* the item is above the bound */
     UPRZEZAR_NO_BOOK = 8,          /* the record is none that a book can have */
     UPRZEZAR_NOT_REACHED = 9,      /* no window that is kept reaches the amount */
-    UPRZEZAR_RING_CALL = 10,       /* the ring's own calls: width not 1 to 16, slots not 1 to 4,096, no such slot, more newest slots than
-                                      there are, or a value too large for the width */
+    UPRZEZAR_RING_CALL = 10,       /* the ring's own calls: the width is not 1 to 16, the slots are not 1 to 4,096, there is no such slot,
+                                      more slots are to be summed than the ring has, or a value takes more bits than the width */
     UPRZEZAR_WRONG_BYTE = 11,      /* a wrong byte in an image's header, or a number without digits */
     UPRZEZAR_BAD_NUMBER = 12,      /* width or height is not 1 to 1,024, or maxval not 1 to 255 */
     UPRZEZAR_IMAGE_TOO_LARGE = 13, /* the image takes more than 24,576 bytes */
     UPRZEZAR_ENDS_TOO_EARLY = 14,  /* the image goes on behind the bytes lent */
     UPRZEZAR_PIXEL_TOO_LARGE = 15, /* a pixel is above maxval */
-    UPRZEZAR_IMAGES_DIFFER = 16    /* the two images differ in width, height or maxval */
+    UPRZEZAR_IMAGES_DIFFER = 16    /* the two images have not the same width, height and maxval */
 };
 
-/* The verdicts, as they hold for a book from a good start. */
+/* The verdicts. What they say of the window is for a book from a good start: the latest record, and a ring changed by nothing else. */
 enum {
     UPRZEZAR_NO_VERDICT = 0,
-    UPRZEZAR_LIVE = 1,      /* the window truly holds the amount */
-    UPRZEZAR_FROZEN = 2,    /* the window truly holds less */
+    UPRZEZAR_LIVE = 1,      /* of a book from a good start: the window truly holds the amount */
+    UPRZEZAR_FROZEN = 2,    /* of a book from a good start: the window truly holds less */
     UPRZEZAR_UNDECIDED = 3  /* every other case: nothing is claimed */
 };
 
@@ -72,7 +73,7 @@ typedef struct {
     uprzezar_shape_numbers shape;
 } uprzezar_shaped;
 
-/* The record of a book. Start from uprzezar_open, and hand each call the record that the last one gave back. */
+/* The record of a book. Start from uprzezar_open, and go on with the latest record that a call handed back. */
 typedef struct {
     uint64_t bound;
     uint64_t length;
@@ -165,18 +166,21 @@ UPRZEZAR_ASSERT(offsetof(uprzezar_raster_place, length) == 16, "raster place");
    bytes 30.) Refusals: 1, 2, 3. */
 uprzezar_shaped uprzezar_shape(uint64_t bound, uint64_t length, uint64_t tolerance);
 
-/* Opens a book: items up to `bound`, windows up to `length`, figures short by less than `tolerance`. Clears the bytes that the ring takes
-   and leaves those behind them alone; how many bytes to lend, uprzezar_shape tells. Refusals: 1, 2, 3, 4. */
+/* Opens a book: items up to `bound`, windows up to `length`, figures that fall short of the true totals by less than `tolerance` as long
+   as it stays a book from a good start. Clears the bytes that the ring takes and leaves those behind them alone; how many bytes to lend,
+   uprzezar_shape tells. Refusals: 1, 2, 3, 4. */
 uprzezar_updated uprzezar_open(uint64_t bound, uint64_t length, uint64_t tolerance, uint8_t *ring, size_t ring_bytes);
 
 /* Adds one item. Refusals: 8, 4, 7. */
 uprzezar_updated uprzezar_add(uprzezar_book book, uint8_t *ring, size_t ring_bytes, uint64_t item);
 
-/* The figure for the last `window` items: for a book from a good start never above their true total, and short of it by less than the
-   tolerance. A window of 0 gives 0. Refusals: 8, 4, 5. */
+/* The figure for the last `window` items: for a book from a good start (the latest record, a ring changed by nothing else) never above
+   their true total, and short of it by less than the tolerance. A window of 0 gives 0. Refusals: 8, 4, 5. */
 uprzezar_figure uprzezar_total(uprzezar_book book, const uint8_t *ring, size_t ring_bytes, uint64_t window);
 
-/* How far back for an amount: the shortest window whose figure reaches it. Refusals: 8, 4, 6, 9. */
+/* How far back for an amount: the shortest window whose figure reaches it. For a book from a good start (the latest record, a ring changed
+   by nothing else) that window truly holds the amount, and each shorter one truly holds less than amount + tolerance - 1; at refusal 9
+   so does every window that is kept. Refusals: 8, 4, 6, 9. */
 uprzezar_window uprzezar_far(uprzezar_book book, const uint8_t *ring, size_t ring_bytes, uint64_t amount);
 
 /* The verdict for a window and an amount, with the window's figure. Refusals: 8, 4, 6, 5. */
@@ -191,7 +195,7 @@ uprzezar_numbers uprzezar_header(const uint8_t *bytes, size_t count);
 /* Where its raster lies. Refusals: those of uprzezar_header. */
 uprzezar_raster_place uprzezar_raster(const uint8_t *bytes, size_t count);
 
-/* The number of positions whose pixels differ by more than `allowance`, or `bound` where that is less. Refusals: 1, the first image's,
+/* At how many positions the pixels are more than `allowance` apart, but never above `bound`. Refusals: 1, the first image's,
    the second's, 16. */
 uprzezar_answer uprzezar_score(uint64_t bound, uint8_t allowance, const uint8_t *first, size_t first_bytes, const uint8_t *second,
                                size_t second_bytes);

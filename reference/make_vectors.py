@@ -4,7 +4,7 @@
     python3 reference/make_vectors.py            writes both files, the same ones each time
     python3 reference/make_vectors.py --check    says whether they are the ones that stand there
 
-The answers come from model.py, which is written from the papers alone and is first held to the figures of worked.py.
+The answers come from model.py, which is written to docs/SCOPE.md alone and is first held to the figures of worked.py.
 The calls stand in sections, each begun by a line `# NAME`; docs/PROMISES.md names them.
 It takes Python 3.9 or later, and no package.
 """

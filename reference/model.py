@@ -1,8 +1,8 @@
-"""The calls of paper 01, in Python's whole numbers, written from the papers alone.
+"""The calls of docs/SCOPE.md, in Python's whole numbers, written to its rules alone.
 
 Every call gives what its answer line holds, first the refusal number, 0 for none;
 bytes and records that a call may change are given as they are afterwards. Nothing here is fast, and nothing is shared with the
-proved code: where the two differ, the papers decide which is wrong.
+proved code: where the two differ, the rules decide which is wrong.
 """
 
 from collections import namedtuple

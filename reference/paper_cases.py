@@ -1,4 +1,4 @@
-"""Cases A to F of paper 01, by sections. What the paper itself says of them is in worked.py."""
+"""Cases A to F of docs/SCOPE.md, by sections. What was worked by hand of them is in worked.py."""
 
 from calls import TOP, call
 from life import Life

@@ -5,7 +5,7 @@ import random
 from calls import TOP, around, call
 from image_calls import damaged, image
 
-# Paper 01's pair and a white image, 2 x 2, on one line and with line feeds; and an image of that size with yet another header.
+# The program's worked pair and a white image, 2 x 2, on one line and with line feeds; and an image of that size with yet another header.
 PIXELS = (bytes(4), bytes([20, 12, 13, 0]), b"\xff" * 4)
 DARK, LIT, FULL = (b"P5 2 2 255\n" + pixels for pixels in PIXELS)
 DARK_LF, LIT_LF, FULL_LF = (image(2, 2, 255, pixels) for pixels in PIXELS)
@@ -13,7 +13,7 @@ OTHERWISE = b"P5\n02\t2\r255\n" + bytes([13, 12, 13, 0])
 
 
 def scores():
-    """Paper 01's pair; allowances around each difference; bounds around the count."""
+    """The program's worked pair; allowances around each difference; bounds around the count."""
     for L, a, first, second in (
         (600, 12, DARK, LIT),
         (600, 12, LIT, DARK),

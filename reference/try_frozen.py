@@ -1,24 +1,35 @@
 #!/usr/bin/env python3
 """Holds the program `frozen` to the reference on streams that are too large or too many for the gate.
 
+    python3 reference/try_frozen.py                          (runs sample/frozen)
     python3 reference/try_frozen.py target/bin/frozen        (any words may follow: the command is run as it stands)
 
-Each line tells a kind of stream and how many there were. It ends with status 1 at the first stream whose output is another.
+Each line tells a kind of stream and how many there were. It ends with status 1 at the first stream whose output is another. The last
+three are of output that cannot be written: nothing may follow a row that got lost.
 """
+import fcntl
+import itertools
+import os
 import random
 import subprocess
 import sys
+import termios
 import time
 from pathlib import Path
 
 import model
 
+ROOT = Path(__file__).resolve().parent.parent
+COMMAND = sys.argv[1:] or [str(ROOT / "sample/frozen")]
 HEAD = "frame,score,kept,total,verdict\r\n"
 LONG = 10_000
+UNWRITTEN = b"frozen: standard output cannot be written\n"
+# Longer than any of these runs takes, an emulated one on a busy machine too.
+PATIENCE = 30
 
 
 def output(data):
-    """The whole output for a whole input, in the setting of paper 01."""
+    """The whole output for a whole input, in the setting of docs/SCOPE.md, Program."""
     ring = bytes(model.book_bytes(600, 1440, 3600))
     _, book, ring = model.open_book(600, 1440, 3600, ring)
     text, last, frame = [HEAD], None, 0
@@ -54,9 +65,10 @@ def frames(rng, count, width, height):
 
 def hold(kind, streams):
     for data in streams:
-        told = subprocess.run(sys.argv[1:], input=data, capture_output=True).stdout
-        wanted = output(data)
+        run = subprocess.run(COMMAND, input=data, capture_output=True)
+        told, wanted = run.stdout, output(data)
         if told != wanted:
+            sys.stderr.write(run.stderr.decode(errors="replace"))
             sys.exit(f"{kind}: another output for {data[:60]!r}..., {len(data)} bytes\n{told[-200:]!r}\n{wanted[-200:]!r}")
     print(f"{kind}: {len(streams)}, all as the reference says")
 
@@ -68,7 +80,7 @@ def damaged(rng, data):
 
 def held_open(rng):
     """With the pipe held open, each row comes within a second of its frame's last byte."""
-    program = subprocess.Popen(sys.argv[1:], stdin=subprocess.PIPE, stdout=subprocess.PIPE, bufsize=0)
+    program = subprocess.Popen(COMMAND, stdin=subprocess.PIPE, stdout=subprocess.PIPE, bufsize=0)
     program.stdout.readline()
     longest = 0
     for data in frames(rng, 20, 160, 120):
@@ -85,9 +97,99 @@ def held_open(rng):
     print(f"held open: 20 frames, the slowest row after {longest:.3f} s")
 
 
+def send(program, data):
+    """Writes to the program as long as it reads."""
+    try:
+        program.stdin.write(data)
+    except BrokenPipeError:
+        pass
+
+
+def ended(kind, program):
+    """Waits for the end of a program whose input is still open."""
+    try:
+        program.wait(PATIENCE)
+    except subprocess.TimeoutExpired:
+        program.kill()
+        program.wait()
+        sys.exit(f"{kind}: it has not ended after {PATIENCE} s")
+
+
+def full_device(worked):
+    """Every write to /dev/full fails. It ends, though its input goes on, and says so."""
+    kind = "output to /dev/full"
+    with open("/dev/full", "wb") as full:
+        program = subprocess.Popen(COMMAND, stdin=subprocess.PIPE, stdout=full, stderr=subprocess.PIPE, bufsize=0)
+    send(program, worked)
+    ended(kind, program)
+    said = program.stderr.read()
+    if said != UNWRITTEN:
+        sys.exit(f"{kind}: it said {said!r} and not {UNWRITTEN!r}")
+    print(f"{kind}: it ended, and said so")
+
+
+def small_pipe():
+    """A pipe as small as there is, whose writer is not made to wait: its ends, and how many bytes it holds."""
+    reads, writes = os.pipe()
+    room = fcntl.fcntl(writes, getattr(fcntl, "F_SETPIPE_SZ", 1031), 1)
+    os.set_blocking(writes, False)
+    return reads, writes, room
+
+
+def quiet(program):
+    """Waits until the program has ended, or has read all that it was sent and had time for its rows."""
+    unread = bytearray(4)
+    until = time.monotonic() + PATIENCE
+    while program.poll() is None and time.monotonic() < until:
+        fcntl.ioctl(program.stdin, termios.FIONREAD, unread)
+        time.sleep(1)
+        if not any(unread):
+            return
+
+
+def read_late(rng):
+    """A pipe that is full when rows come and read when it is too late: what was written is a beginning of the output."""
+    kind = "output to a full pipe"
+    reads, writes, room = small_pipe()
+    sent = list(frames(rng, max(2001, room // 8), 8, 6))
+    program = subprocess.Popen(COMMAND, stdin=subprocess.PIPE, stdout=writes, stderr=subprocess.PIPE, bufsize=0)
+    os.close(writes)
+    send(program, b"".join(sent[:-1]))
+    quiet(program)
+    told = os.read(reads, room)
+    # There is room again: a program that goes on would write the last row behind the hole.
+    send(program, sent[-1])
+    program.stdin.close()
+    with open(reads, "rb") as rest:
+        told += rest.read()
+    ended(kind, program)
+    wanted = output(b"".join(sent))
+    if not wanted.startswith(told):
+        both = itertools.zip_longest(told.split(b"\r\n"), wanted.split(b"\r\n"))
+        came, due = next((came, due) for came, due in both if came != due)
+        sys.exit(f"{kind}: a row is missing before one that is there: {came!r} came in the place of {due!r}")
+    said = program.stderr.read()
+    if said != (b"" if told == wanted else UNWRITTEN):
+        sys.exit(f"{kind}: {len(told)} of {len(wanted)} bytes came, and it said {said!r}")
+    print(f"{kind}: {len(told)} of {len(wanted)} bytes came, none behind one that did not")
+
+
+def reader_gone(rng, signal):
+    """The reader goes after the first line. It ends, though its input goes on, by the signal or, where that is ignored, by itself."""
+    kind = "a reader that has gone" + ("" if signal else ", the signal ignored")
+    program = subprocess.Popen(
+        COMMAND, stdin=subprocess.PIPE, stdout=subprocess.PIPE, stderr=subprocess.DEVNULL, bufsize=0, restore_signals=signal
+    )
+    program.stdout.readline()
+    program.stdout.close()
+    send(program, b"".join(frames(rng, 100, 9, 7)))
+    ended(kind, program)
+    print(f"{kind}: it ended")
+
+
 def main():
     rng = random.Random(6)
-    worked = (Path(__file__).parent.parent / "crates/frozen/stdin").read_bytes()
+    worked = (ROOT / "crates/frozen/stdin").read_bytes()
     short = b"".join(frames(rng, 12, 9, 7))
     hold("empty", [b""])
     hold("worked", [worked])
@@ -99,6 +201,10 @@ def main():
     hold(f"{LONG} frames", [b"".join(frames(rng, LONG, 16, 12))])
     hold("large frames", [b"".join(frames(rng, 300, 160, 120))])
     held_open(rng)
+    full_device(worked)
+    read_late(rng)
+    reader_gone(rng, True)
+    reader_gone(rng, False)
 
 
 main()

@@ -1,4 +1,4 @@
-"""Figures worked by hand, as calls and answers: paper 01's cases A to G, and the lines of the vectors' format.
+"""Figures worked by hand, as calls and answers: the cases A to G of docs/SCOPE.md, and the lines of the vectors' format.
 
 The model is held to them each time the vectors are made. They stand first in the section of their name.
 """
@@ -53,7 +53,7 @@ FIGURES = {
         (f"pgm {b'P5 1 1 256 '.hex()}", "12 0 0 0 0 0 0"),
         (f"pgm {b'P5 1 1 255 '.hex()}", "14 0 0 0 0 0 0"),
     ],
-    # What paper 01 says of cases A to D and of the program's setting, its blanks filled by the same rules.
+    # The numbers of cases A to D and of the program's setting, all five of each.
     "shapes": [
         ("shape 5 6 10", "0 2 3 1 1 1"),
         ("shape 3 4 2", "0 1 4 2 2 1"),

@@ -4,6 +4,7 @@
 Sixty frames with wind in the trees, then dusk, in which fewer and fewer pixels move, then a stalled sensor that sends the same
 frame again and again. The same frames come out each time: the noise is a small generator with a fixed seed.
 """
+import os
 import sys
 
 WIDTH, HEIGHT = 64, 48
@@ -40,4 +41,9 @@ def main():
         write(pixels)
 
 
-main()
+try:
+    main()
+    sys.stdout.flush()
+except BrokenPipeError:
+    # Whoever read the frames has gone; Python must not try to write the rest when it ends.
+    os.dup2(os.open(os.devnull, os.O_WRONLY), sys.stdout.fileno())

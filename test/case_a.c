@@ -1,4 +1,4 @@
-/* Case A of the scope of work, through the header, and the small pictures of its program; the shapes of its book and of the box's. */
+/* Case A of docs/SCOPE.md, through the header, and the small pictures of its program; the shapes of its book and of the box's. */
 #include "../include/uprzezar.h"
 
 #include <inttypes.h>

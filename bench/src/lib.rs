@@ -1,4 +1,4 @@
-//! The calls of the library twice over: `plain` is an independent version in ordinary Rust, written from the papers, and `proved` is
+//! The calls of the library twice over: `plain` is an independent version in ordinary Rust, written to docs/SCOPE.md, and `proved` is
 //! the library itself, linked as an archive.
 
 pub mod cases;

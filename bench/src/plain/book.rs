@@ -3,7 +3,7 @@
 use super::ring;
 use super::Refusal;
 
-/// L, n, D, R, p, kept and head of the paper.
+/// L, n, D, R, p, kept and head (docs/SCOPE.md, Record).
 #[derive(Clone, Copy, Debug, Default, PartialEq, Eq)]
 pub struct Book {
     pub bound: u64,
@@ -22,7 +22,7 @@ pub enum Verdict {
     Undecided,
 }
 
-/// What follows from L, n and D: c, s, z and b of the paper, and B by `bytes`.
+/// What follows from L, n and D: c, s, z and b (docs/SCOPE.md, Numbers), and B by `bytes`.
 #[derive(Clone, Copy, Debug)]
 pub struct Shape {
     pub block: u64,

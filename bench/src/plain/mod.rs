@@ -1,4 +1,4 @@
-//! The calls in ordinary Rust, written from paper 01 and not from the proved code.
+//! The calls in ordinary Rust, written to docs/SCOPE.md and not from the proved code.
 
 pub mod book;
 pub mod image;
@@ -6,7 +6,7 @@ pub mod program;
 pub mod ring;
 pub mod score;
 
-/// Why a call was refused; the numbers are those of the paper's table.
+/// Why a call was refused; the numbers are those of docs/SCOPE.md, Refusals.
 #[derive(Clone, Copy, Debug, PartialEq, Eq)]
 #[repr(u8)]
 pub enum Refusal {

@@ -1,4 +1,4 @@
--- A row of bits in bytes, as in a PBM image: the top bit of the first byte comes first.
+-- A row of bits in bytes, as in a PBM image: the top bit of the first byte comes first (SCOPE, Ring).
 use Prim.Native.Nat.{ℕ, zero, suc, _+_, _*_, _/_, _%_, _^_}
 use mathlib.Core.List.{List, [], _∷_, _++_}
 use lib.ListN.{length, take, drop}

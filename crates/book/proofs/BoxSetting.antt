@@ -1,4 +1,4 @@
--- The box's own setting, L 600, n 1,440 and D 3,600: blocks of 6, 240 slots of one bit, 30 bytes (paper 01, "The program").
+-- The box's own setting, L 600, n 1,440 and D 3,600: blocks of 6, 240 slots of one bit, 30 bytes (SCOPE, Program).
 -- Assumes nothing.
 use mathlib.Core.Path.{_≡_, refl}
 use Rattle.ring.proofs.Promises.{bytes-are}

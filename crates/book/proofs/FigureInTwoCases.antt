@@ -24,7 +24,7 @@ pub figure-open : (book : Book) (held : ℕ → ℕ) (window : ℕ) → window �
 unfolding figureBy
 figure-open book held window h = rw (le-leb window (book .phase) h)
 
--- THE FORMULA in its two cases, with all names opened: paper 01's sentence
+-- THE FORMULA in its two cases, with all names opened, as it stands in SCOPE, Total
 module _ (book : Book) (held : ℕ → ℕ) (window : ℕ) where
   pub figure-in-open : window ≤ book .phase
       → figureOf book held window

@@ -1,4 +1,4 @@
--- How far back (ledger 3.1), for every record and every ring: the window named is the smallest whose figure reaches v, and 9 comes exactly
+-- How far back (promise 3.1), for every record and every ring: the window named is the smallest whose figure reaches v, and 9 comes exactly
 -- where there is none.
 -- Assumes nothing.
 use Prim.Native.Nat.{ℕ, zero, suc, _+_, _≤_, _<_}

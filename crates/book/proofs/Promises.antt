@@ -35,7 +35,7 @@ pub use Rattle.book.proofs.StepsInRange.{quotient-le, quotient-in}
 pub use Rattle.book.proofs.StaysABook.{opened-sound, open-sound, closed-sound, closed-carry}
 -- the slot before the next one is the old one, and the t-th block's slot is t modulo the slots
 pub use Rattle.book.proofs.NextSlot.{before-after, slot-after-mod}
--- THE FIGURE by paper 01's formula, within the open block and beyond it
+-- THE FIGURE by the formula of SCOPE, Total, within the open block and beyond it
 pub use Rattle.book.proofs.FigureInTwoCases.{figure-in-open, figure-in-slots}
 -- THE VERDICT by its rule
 pub use Rattle.book.proofs.VerdictRule.{live-by, frozen-by}

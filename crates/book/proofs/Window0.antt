@@ -1,4 +1,4 @@
--- A window of 0 answers 0 (ledger 2.1, B.2): by its figure, and by the call, for every record and every ring that pass 8 and 4.
+-- A window of 0 answers 0 (promises 2.1, B.2): by its figure, and by the call, for every record and every ring that pass 8 and 4.
 -- Assumes nothing.
 use Prim.Native.Nat.{ℕ, zero, suc, _+_, _-_, _*_, _/_, _≤_, _<_}
 use native.Mathlib.Nat.{lt-div-mul-add, mul-le-mul-left, sub-zero}

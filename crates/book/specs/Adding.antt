@@ -1,4 +1,4 @@
--- Adding x to a book: paper 01, "Adding x".
+-- Adding x to a book: SCOPE, Adding.
 use Prim.Native.Nat.{ℕ, _+_, _-_, _*_, _/_, min}
 use mathlib.Core.Bool.{cond}
 use mathlib.Core.List.{List}

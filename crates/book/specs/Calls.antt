@@ -1,4 +1,4 @@
--- What each call of the book gives and leaves, for every input, with its refusals in paper 01's order.
+-- What each call of the book gives and leaves, for every input, with its refusals in the order of SCOPE, Refusals.
 use Prim.Native.Nat.{ℕ, _+_, _-_, _*_}
 use mathlib.Core.List.{List, [], _∷_, _++_}
 use lib.Dec.{ltb, leb, eqb}

@@ -1,4 +1,4 @@
--- The numbers that follow from a book's bound L, length n and tolerance D: paper 01, "Numbers of a book".
+-- The numbers that follow from a book's bound L, length n and tolerance D: SCOPE, Numbers.
 use Prim.Native.Nat.{ℕ, zero, suc, _+_, _-_, _*_, _/_, max}
 use Rattle.ring.specs.Slot.{ringBytes}
 

@@ -1,4 +1,4 @@
--- The figure for the last i: paper 01, "Total of the last i".
+-- The figure for the last i items: SCOPE, Total.
 use Prim.Native.Nat.{ℕ, _+_, _-_, _*_, _/_}
 use mathlib.Core.Bool.{cond}
 use mathlib.Core.List.{List}

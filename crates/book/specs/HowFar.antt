@@ -1,4 +1,4 @@
--- How far back for v: paper 01, "How far back".
+-- How far back for v: SCOPE, How far back.
 use Prim.Native.Nat.{ℕ, zero, suc, _≤_, _<_}
 use mathlib.Core.Bool.{cond}
 use mathlib.Core.List.{List}

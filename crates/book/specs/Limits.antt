@@ -1,4 +1,4 @@
--- The ends of the ranges of paper 01, "Numbers of a book".
+-- The ends of the ranges of L and n: SCOPE, Numbers.
 use Prim.Native.Nat.{ℕ}
 
 -- L is 1 to 65,535

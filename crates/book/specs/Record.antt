@@ -1,4 +1,4 @@
--- The record of a book: L, n, D, the carry R, the phase p, kept and head. Its derived numbers, and how a changed record is made.
+-- The record of a book (SCOPE, Record): L, n, D, the carry R, the phase p, kept and head. Its derived numbers, and how a changed record is made.
 use Prim.Native.Nat.{ℕ}
 use mathlib.Core.List.{List}
 use Rattle.ring.specs.Slot.{field}

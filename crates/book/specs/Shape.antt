@@ -1,4 +1,4 @@
--- The numbers c, s, z, b and B of a book together, as they follow from L, n and D; and the call that gives them.
+-- The numbers c, s, z, b and B of a book (SCOPE, Numbers) together, as they follow from L, n and D; and the call that gives them.
 use Prim.Native.Nat.{ℕ, _*_}
 use mathlib.Core.List.{List, [], _∷_}
 use Rattle.refusals.specs.Numbers.{badBound, badLength, badTolerance}

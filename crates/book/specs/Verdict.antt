@@ -1,4 +1,4 @@
--- The verdict for window w and amount v: paper 01, "Verdict".
+-- The verdict for window w and amount v: SCOPE, Verdict.
 use Prim.Native.Nat.{ℕ, _+_, _-_}
 use mathlib.Core.Bool.{cond}
 use lib.Dec.{leb, ltb}
@@ -19,7 +19,7 @@ figureIn (Live figure) = figure
 figureIn (Frozen figure) = figure
 figureIn (Undecided figure) = figure
 
--- the paper's number for each case of an answer: the refusal, 0 where a verdict is told …
+-- the number for each case of an answer: the refusal, 0 where a verdict is told …
 abbrev pub refusalIn : Ruling → ℕ
 refusalIn (Told verdict) = 0
 refusalIn (Refused refusal) = refusal

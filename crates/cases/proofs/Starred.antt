@@ -1,4 +1,4 @@
--- The one statement of the table (ledger W.1): in every row the definitions that the contracts cite answer what the paper gives.
+-- The one statement of the table (promise W.1): in every row the definitions that the contracts cite answer what was worked by hand.
 -- Assumes nothing.
 use mathlib.Core.List.{List, map}
 use mathlib.Core.Path.{_≡_, refl}

@@ -1,4 +1,4 @@
--- What can be asked of a history, and what can be answered: in the paper's own words and letters, or a refusal by its number.
+-- What can be asked of a history, and what can be answered: in SCOPE's words and letters, or a refusal by its number.
 use Prim.Native.Nat.{ℕ}
 use mathlib.Core.List.{List}
 use Rattle.book.specs.declared.verdicts.Verdict.{Verdict}

@@ -1,4 +1,4 @@
--- Paper 01, "Figures worked by hand", the starred cases A to E: each row asks something of a history and gives the answer.
+-- The starred cases A to E of SCOPE, Cases: each row asks something of a history and gives the answer.
 use Prim.Native.Nat.{ℕ}
 use mathlib.Core.List.{List, [], _∷_}
 use Rattle.book.specs.declared.verdicts.Verdict.the-variants.{Live, Frozen, Undecided}
@@ -103,7 +103,7 @@ table =
     ∷ (caseA asks verdict 4 9 over [] gives refused 4)
     ∷ []
 
--- a row's answer by the definitions, and the one that the paper gives
+-- a row's answer by the definitions, and the one that was worked by hand
 abbrev pub answered : Row → Answer
 answered (history asks question gives answer) = answerTo history question
 

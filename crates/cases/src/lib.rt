@@ -1,1 +1,1 @@
-// The figures that paper 01 works by hand and marks with a star: one table in specs/, one theorem in proofs/. There is no code here.
+// The figures that are worked by hand and starred in SCOPE, Cases: one table in specs/, one theorem in proofs/. There is no code here.

@@ -1,4 +1,4 @@
--- Decimal digits as bytes: which byte is one, the number that a run of them writes, and the run that writes a number.
+-- Decimal digits as bytes: which byte is one, the number that a run of them writes, and the run that writes a number (SCOPE, Images and Program).
 use Prim.Native.Nat.{ℕ, zero, suc, _+_, _*_, _-_, _/_, _%_}
 use mathlib.Core.Bool.{Bool, true, cond, _&&_}
 use mathlib.Core.List.{List, [], _∷_, _++_}

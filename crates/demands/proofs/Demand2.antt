@@ -1,4 +1,4 @@
--- DEMAND 2 (ledger 2.3, B.2): of every good book, each window that is kept is answered, and its figure is never above the true total and
+-- DEMAND 2 (promises 2.3, B.2): of every good book, each window that is kept is answered, and its figure is never above the true total and
 -- short of it by less than D.
 -- Assumes nothing.
 use Prim.Native.Nat.{ℕ, _≤_}

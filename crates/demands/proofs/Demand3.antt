@@ -1,4 +1,4 @@
--- DEMAND 3 (ledger 3.2 to 3.5, B.1): of every good book and every amount of 1 or more.
+-- DEMAND 3 (promises 3.2 to 3.5, B.1): of every good book and every amount of 1 or more.
 -- Assumes nothing.
 use Prim.Native.Nat.{ℕ, zero, suc, _+_, _-_, _≤_, _<_}
 use native.Mathlib.Omega.{arith}

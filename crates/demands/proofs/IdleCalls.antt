@@ -1,4 +1,4 @@
--- The calls of paper 01 that change nothing are calls of a good book's history (ledger 2.2): a refused item, a total, how far back, a verdict.
+-- The calls of the book that change nothing are calls of a good book's history (promise 2.2): a refused item, a total, how far back, a verdict.
 -- Each is seen by the record that its caller goes on with: the one that comes back, or, where the result has none, the one that went in.
 -- Assumes nothing.
 use Prim.Native.Nat.{ℕ}

@@ -1,5 +1,5 @@
--- The law at the heart of the method (document 003, Lemma 6), on plain numbers: what the figure takes off for the items of the
--- oldest block that lie outside the window is right to within D.
+-- The law at the heart of the method (Lemma 6 of the first source that SCOPE, Numbers names), on plain numbers: what the figure takes off
+-- for the items of the oldest block that lie outside the window is right to within D.
 -- Assumes nothing.
 use Prim.Native.Nat.{ℕ, zero, suc, _+_, _-_, _*_, _≤_, _<_}
 use native.Mathlib.Nat.{mul-le-mul-right, mul-le-mul-left}

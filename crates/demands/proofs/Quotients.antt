@@ -1,4 +1,4 @@
--- Quotients and slots (ledger 2.5): of a block that closes no quotient is above z, each fits its slot, and the ring takes every write; and a
+-- Quotients and slots (promise 2.5): of a block that closes no quotient is above z, each fits its slot, and the ring takes every write; and a
 -- window that is kept needs no more slots than there are.
 -- Assumes nothing.
 use Prim.Native.Nat.{ℕ, _+_, _≤_, _<_, _^_}

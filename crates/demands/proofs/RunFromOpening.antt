@@ -1,4 +1,4 @@
--- A run from an opening (ledger 2.4, B.3): an opening begins one, and items that are accepted, and calls that are refused or only ask, go on
+-- A run from an opening (promises 2.4, B.3): an opening begins one, and items that are accepted, and calls that are refused or only ask, go on
 -- with it; it is a good book; and each number of its record and each byte of its ring is known.
 -- Assumes nothing.
 use Prim.Native.Nat.{ℕ, zero, suc, _+_, _-_, _*_, _/_, _%_, _≤_, _<_, _^_, min}
@@ -225,7 +225,7 @@ module _ (bound n tolerance : ℕ) (lent : List ℕ) (book : Book) (ring items :
       (let m = added-keeps b r l (h .inv) item usable small in
       record { inv = m .inv; before-is = λ i. m .before-is i ∙ older-more (h .inv .before) l item (h .before-is) i }))
 
-  -- ledger 2.4, B.3: the record …
+  -- promises 2.4, B.3: the record …
   pub record-follows : RecordFollows bound n tolerance book items
   record-follows =
       let c : ℕ = blockOf book in

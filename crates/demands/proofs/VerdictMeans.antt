@@ -1,4 +1,4 @@
--- What a verdict means over the true totals (ledger 3.6): of a good book, for a window from 1 to kept and an amount of 1 or more, one is told;
+-- What a verdict means over the true totals (promise 3.6): of a good book, for a window from 1 to kept and an amount of 1 or more, one is told;
 -- live, the window truly holds the amount; frozen, it truly holds less.
 -- Assumes nothing.
 use Prim.Native.Nat.{ℕ, _+_, _-_, _≤_, _<_}

@@ -1,4 +1,4 @@
--- Demand 2: a total is never above the true total, and short of it by less than D.
+-- Demand 2 (SCOPE, Demands): a total is never above the true total, and short of it by less than D.
 use Prim.Native.Nat.{ℕ, _+_, _≤_, _<_}
 use mathlib.Core.List.{List}
 use mathlib.Core.Path.{_≡_}

@@ -1,4 +1,4 @@
--- Demand 3: "how far back for v", over the call and the true totals.
+-- Demand 3 (SCOPE, Demands): "how far back for v", over the call and the true totals.
 use Prim.Native.Nat.{ℕ, _+_, _-_, _≤_, _<_}
 use mathlib.Core.List.{List}
 use mathlib.Core.Logic.{_⊎_, _↔_}

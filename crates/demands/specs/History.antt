@@ -1,4 +1,4 @@
--- A book from a good start, used only through the calls, with the items that it accepted since.
+-- A book from a good start (SCOPE, Demands), used only through the calls, with the items that it accepted since.
 use Prim.Native.Nat.{ℕ, _+_}
 use mathlib.Core.List.{List, [], _∷_}
 use mathlib.Core.Logic.{_⊎_}
@@ -33,7 +33,7 @@ unfoldable pub sumOf : List ℕ → ℕ
 sumOf [] = 0
 sumOf (item ∷ older) = item + sumOf older
 
--- S, the true total of the last i items (document 004's ss)
+-- S, the true total of the last i items (SCOPE, Demands)
 unfoldable pub trueTotal : ℕ → List ℕ → ℕ
 trueTotal i items = sumOf (take i items)
 

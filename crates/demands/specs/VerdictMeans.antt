@@ -1,4 +1,4 @@
--- What a verdict means over the true totals: live, the window truly holds the amount; frozen, it truly holds less.
+-- What a verdict (SCOPE, Verdict) means over the true totals: live, the window truly holds the amount; frozen, it truly holds less.
 use Prim.Native.Nat.{ℕ, _≤_, _<_}
 use mathlib.Core.List.{List}
 use mathlib.Core.Path.{_≡_}
@@ -12,7 +12,7 @@ use Rattle.book.specs.Calls.{verdictCall}
 use Rattle.demands.specs.History.{trueTotal}
 
 pub record VerdictMeans (book : Book) (ring items : List ℕ) (window v : ℕ) : Type 0 where
-  -- a verdict is told, by paper 01's rule over the figure …
+  -- a verdict is told, by the rule of SCOPE, Verdict, over the figure …
   pub told : resultOf (verdictCall book ring window v) ≡ Told (verdictOf (book .tolerance) v (figure book ring window))
   -- … and means this
   pub live-holds : (f : ℕ) → resultOf (verdictCall book ring window v) ≡ Told (Live f) → v ≤ trueTotal window items

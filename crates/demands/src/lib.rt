@@ -1,1 +1,1 @@
-// What the mission demands of a book, over the true totals: definitions in specs/, theorems in proofs/. There is no code here.
+// What is demanded of a book (SCOPE, Demands), over the true totals: definitions in specs/, theorems in proofs/. There is no code here.

@@ -22,7 +22,7 @@ use Rattle.image.proofs.ReadingLies.{refused-reading}
 use Rattle.image.proofs.header.Reads as header-reads
 use Rattle.image.proofs.raster.Reads as raster-reads
 
--- ledger 1.3: a refused reading has nothing but its refusal …
+-- promise 1.3: a refused reading has nothing but its refusal …
 pub refused-all-zero : (s : List ℕ) → (numbersOf s .refusal ≡ 0 → ⊥) → numbersOf s ≡ refusedWith (numbersOf s .refusal)
 unfolding numbersOf
 refused-all-zero s ne = ap (λ (r : Reading). named r) (refused-reading pgm s ne)
@@ -78,7 +78,7 @@ module _ (κs : Lfts 1) where
       settled (raster-reads.Post κs) partOf (λ a e. now (a .0)) (λ a. rasterCall (a .0))
       (λ a r e p. (p ∙ sym (raster-result (a .0)), asks-leaves (rasterCall (a .0)) refl))
 
--- ledger 1.2: of the raster's faults, in an image of any kind, the first that holds gives the refusal (those of the header come in the order
+-- promise 1.2: of the raster's faults, in an image of any kind, the first that holds gives the refusal (those of the header come in the order
 -- of its bytes)
 module _ (kind : Kind) (s numbers : List ℕ) (start : ℕ) where
   abbrev faults : List Fault

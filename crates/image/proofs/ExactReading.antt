@@ -1,4 +1,4 @@
--- Ledger 2.6, for every kind of image: a slice is accepted exactly where it starts with an image as the format has it, with that image's
+-- Promise 2.6, for every kind of image: a slice is accepted exactly where it starts with an image as the format has it, with that image's
 -- numbers, and no slice starts with two.
 -- Assumes nothing.
 use Prim.Native.Nat.{ℕ, _+_, _-_, _≤_, _<_}

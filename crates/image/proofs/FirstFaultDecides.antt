@@ -1,4 +1,4 @@
--- Ledger B.7: the first fault of a slice, which specs/FirstFault.antt says of the bytes alone, decides. A slice is refused with a number
+-- Promise B.7: the first fault of a slice, which specs/FirstFault.antt says of the bytes alone, decides. A slice is refused with a number
 -- exactly where that number's fault is its first one; so a reader that swapped two numbers, or judged too early, is another.
 -- Assumes nothing.
 use Prim.Native.Nat.{ℕ}

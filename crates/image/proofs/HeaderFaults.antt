@@ -1,4 +1,4 @@
--- Ledger B.7 for headers: a reading stops with 11 exactly at a wrong byte, with 12 exactly at a number out of range, and for want of a byte
+-- Promise B.7 for headers: a reading stops with 11 exactly at a wrong byte, with 12 exactly at a number out of range, and for want of a byte
 -- exactly where the bytes run out, each said of the bytes alone.
 -- Assumes nothing.
 use Prim.Native.Nat.{ℕ, suc, _<_}

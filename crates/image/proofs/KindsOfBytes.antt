@@ -27,7 +27,7 @@ white-not-digit byte w = by (digit byte) refl
     by true d = sym w ∙ digit-not-white byte d
     by false d = refl
 
--- paper 01: a `#` in a header is a wrong byte
+-- a `#` in a header is a wrong byte (SCOPE, Images: visible bytes)
 pub hash-is-wrong : (white hash ≡ false) × (digit hash ≡ false)
 unfolding white
 hash-is-wrong = (refl, digit-low hash (omega arith))

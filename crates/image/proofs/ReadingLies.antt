@@ -17,7 +17,7 @@ reading-sized kind s =
     reading-cases kind s (Sized kind) (λ refusal e. inl refl) λ numbers start rest e.
     raster-cases kind s numbers start (Sized kind) (λ _. inl refl) (λ _ _. inl refl) (λ _ _ _. inl refl) (λ _ _ _. inr (refl, refl))
 
--- ledger 1.3: a refused reading has nothing but its refusal
+-- promise 1.3: a refused reading has nothing but its refusal
 pub refused-reading : (kind : Kind) (s : List ℕ) → (readingOf kind s .refusal ≡ 0 → ⊥)
     → readingOf kind s ≡ refusedReading (readingOf kind s .refusal)
 refused-reading kind s ne = ⊎-elim (λ zeros. zeros) (λ taken. absurd (ne (taken .0))) (reading-sized kind s)

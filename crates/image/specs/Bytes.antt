@@ -1,4 +1,4 @@
--- The bytes that a header is made of, by name.
+-- The bytes that a header is made of, by name (SCOPE, Images).
 use Prim.Native.Nat.{ℕ}
 use mathlib.Core.Bool.{Bool, _||_}
 use lib.Dec.{eqb}

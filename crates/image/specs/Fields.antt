@@ -1,4 +1,4 @@
--- The fields of a header, each a step over the bytes ahead: a sign, one white byte, a number, and all of them in order.
+-- The fields of a header (SCOPE, Images), each a step over the bytes ahead: a sign, one white byte, a number, and all of them in order.
 use Prim.Native.Nat.{ℕ, _-_}
 use mathlib.Core.Bool.{Bool, cond}
 use mathlib.Core.List.{List, [], _∷_}

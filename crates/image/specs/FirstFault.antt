@@ -1,4 +1,4 @@
--- Paper 01's "the first fault decides", said of the bytes alone (ledger B.7): no reading is spoken of here.
+-- The first fault of SCOPE, Images, said of the bytes alone (promise B.7): no reading is spoken of here.
 use Prim.Native.Nat.{ℕ, _+_, _≤_, _<_}
 use mathlib.Core.Bool.{true, false}
 use mathlib.Core.List.{List, [], _∷_, _++_}

@@ -1,5 +1,5 @@
--- The formats as Netpbm describes them, within paper 01's bounds, said without any reading: which bytes are an image of a kind, and of
--- which numbers.
+-- The formats as Netpbm describes them, within the limits of SCOPE, Images, said without any reading: which bytes are an image of a kind,
+-- and of which numbers.
 use Prim.Native.Nat.{ℕ, _+_, _≤_, _<_}
 use mathlib.Core.Bool.{Bool, true, false}
 use mathlib.Core.List.{List, [], _∷_, _++_}

@@ -36,7 +36,7 @@ largestSide = 1024
 abbrev pub largestMaxval : ℕ
 largestMaxval = 255
 
--- the binary PGM of paper 01: `P5`, width, height, maxval; row by row; no pixel above maxval
+-- the binary PGM of SCOPE, Images: `P5`, width, height, maxval; row by row; no pixel above maxval
 unfoldable pub pgm : Kind
 pgm =
     record {

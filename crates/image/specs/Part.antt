@@ -1,4 +1,4 @@
--- A part of a lent slice: the place in memory where it starts, and the bytes that it holds.
+-- A part of a lent slice: the place in memory where it starts, and the bytes that it holds (SCOPE, Images: the raster).
 use Prim.Native.Nat.{ℕ, _+_, _-_}
 use mathlib.Core.List.{List, [], _∷_}
 use denote.Ref.{RefT, ptr, now}

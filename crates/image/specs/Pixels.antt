@@ -1,4 +1,4 @@
--- A raster and its pixels. How many bytes a pixel takes is handed in as `per`.
+-- A raster and its pixels (SCOPE, Images). How many bytes a pixel takes is handed in as `per`.
 use Prim.Native.Nat.{ℕ, zero, suc, _+_, _*_}
 use mathlib.Core.Bool.{Bool, false, _||_}
 use mathlib.Core.List.{List, [], _∷_}

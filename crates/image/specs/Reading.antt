@@ -1,4 +1,4 @@
--- The whole reading of an image of any kind: the header's fields in order, then the raster. A refused reading has all numbers 0.
+-- The whole reading of an image of any kind (SCOPE, Images): the header's fields in order, then the raster. A refused reading has all numbers 0.
 use Prim.Native.Nat.{ℕ, _+_, _*_, _-_}
 use mathlib.Core.List.{List, [], _∷_, _++_}
 use lib.Dec.{ltb}

@@ -17,7 +17,7 @@ pub record Seen : Type 0 where
   pub upto : ℕ
 
 -- whether a comment goes on behind a byte that has `used` bytes before it, where it stands inside one or not.
--- Paper 01 knows no comments
+-- There are no comments (SCOPE, Images: visible bytes)
 unfoldable pub comments : (inside : Bool) (used byte : ℕ) → Bool
 comments inside used byte = false
 

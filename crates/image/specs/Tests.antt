@@ -1,4 +1,4 @@
--- What is asked of a number of a header.
+-- What is asked of a number of a header (SCOPE, Images, Limits).
 use Prim.Native.Nat.{ℕ}
 use mathlib.Core.Bool.{Bool, true, not, _&&_}
 use mathlib.Core.List.{List, [], _∷_}

@@ -39,7 +39,7 @@ first-holds ((false gives own) ∷ later) number n e =
       none-earlier = (refl, r .none-earlier);
     }
 
--- … and the first fault that holds gives its number (ledger B.4)
+-- … and the first fault that holds gives its number (promise B.4)
 pub first-is-given : (faults : List Fault) (number : ℕ) → Numbered faults → FirstThatHolds faults number → firstOf faults ≡ number
 first-is-given faults number n f = ap firstOf (f .split) ∙ by (f .earlier) (f .none-earlier) (rw (f .split) at n)
   where

@@ -1,11 +1,11 @@
--- A call as data over its own arguments: its faults in the paper's order, and what comes of it without one and with one.
+-- A call as data over its own arguments: its faults in order, and what comes of it without one and with one.
 -- That a refusal leaves what was lent as it came is in the shape itself: a row has no place to say otherwise.
 use Prim.Native.Nat.{ℕ, zero, suc}
 use mathlib.Core.List.{List}
 use Rattle.refusals.specs.First.{Fault, firstOf, unlessRefused}
 
 pub record Call (Result Lent : Type 0) : Type 0 where
-  -- the faults, in the paper's order
+  -- the faults, in the order of SCOPE, Refusals
   pub faults : List Fault
   -- where none holds: the result, and what was lent as the call leaves it
   pub given : Result

@@ -1,5 +1,5 @@
--- Demand 1, once for every call of every crate: a result or a numbered refusal, the number exactly that of the first fault that holds,
--- and a refusal changes nothing. And when a function's statement says what its row says.
+-- Demand 1 (SCOPE, Demands), once for every call of every crate: a result or a numbered refusal, the number exactly that of the first
+-- fault that holds, and a refusal changes nothing. And when a function's statement says what its row says.
 use Prim.Native.Nat.{ℕ, zero, suc, _<_}
 use mathlib.Core.Bool.{Bool, true, false}
 use mathlib.Core.List.{List, [], _∷_, _++_}

@@ -1,4 +1,4 @@
--- How a call finds its refusal: it has a list of faults in the paper's order, and the first that holds gives its number.
+-- How a call finds its refusal: it has a list of faults in its own order (SCOPE, Refusals), and the first that holds gives its number.
 use Prim.Native.Nat.{ℕ, zero, suc}
 use mathlib.Core.Bool.{Bool, true, false, cond, _||_}
 use mathlib.Core.List.{List, [], _∷_}

@@ -1,4 +1,4 @@
--- The refusal numbers of paper 01, section "Refusal numbers", and 23 of the program's lines, each with a name. 0 means that nothing was refused.
+-- The refusal numbers of SCOPE, Refusals, each with a name. 0 means that nothing was refused.
 use Prim.Native.Nat.{ℕ}
 
 -- 1: L is not 1 to 65,535
@@ -65,6 +65,6 @@ pixelTooLarge = 15
 abbrev pub imagesDiffer : ℕ
 imagesDiffer = 16
 
--- 23: a buffer for a line has fewer than 96 bytes (17 to 22 are kept for paper 02)
+-- 23: a buffer for a line has fewer than 96 bytes (17 to 22 are kept for requests)
 abbrev pub bufferTooShort : ℕ
 bufferTooShort = 23

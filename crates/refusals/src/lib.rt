@@ -1,4 +1,4 @@
-// What all calls share: the refusal numbers of paper 01 and 23 of the program's lines, how the first one that applies is found, and what a refusal leaves as it was.
+// What all calls share: the refusal numbers (SCOPE, Refusals), how the first one that applies is found, and what a refusal leaves as it was.
 // The numbers stand here for the code and in specs/Numbers.antt for the statements; no call is made here.
 pub const BAD_BOUND: u8 = 1;
 
@@ -32,5 +32,5 @@ pub const PIXEL_TOO_LARGE: u8 = 15;
 
 pub const IMAGES_DIFFER: u8 = 16;
 
-// 23: a buffer for a line has fewer than 96 bytes (17 to 22 are kept for paper 02).
+// 23: a buffer for a line has fewer than 96 bytes (17 to 22 are kept for requests).
 pub const BUFFER_TOO_SHORT: u8 = 23;

@@ -1,5 +1,5 @@
 -- THE RING'S PROMISES. These are final: the book, and every crate above the ring, cites this file and the names of specs/, and looks
--- into no definition. First what the calls answer, then ledger R.3: what the slots hold after a clear and a write, and the sums.
+-- into no definition. First what the calls answer, then promise R.3: what the slots hold after a clear and a write, and the sums.
 -- Assumes nothing.
 use Prim.Native.Nat.{ℕ, suc, _+_, _-_, _*_, _/_, _^_, _≤_, _<_}
 use native.Mathlib.Omega.{arith}

@@ -1,4 +1,4 @@
--- What each call of the ring answers and leaves, for every input. Refusals: 10 before 4, as paper 01 orders them.
+-- What each call of the ring answers and leaves, for every input. Refusals: 10 before 4 (SCOPE, Refusals).
 use Prim.Native.Nat.{ℕ, _^_}
 use mathlib.Core.List.{List, [], _∷_, _++_}
 use lib.Dec.{ltb, leb}

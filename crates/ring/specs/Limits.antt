@@ -1,4 +1,4 @@
--- How large a ring can be.
+-- How large a ring can be (SCOPE, Ring).
 use Prim.Native.Nat.{ℕ}
 
 -- the most bits of a slot

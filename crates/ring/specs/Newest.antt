@@ -1,4 +1,4 @@
--- The newest slots of a ring, counted back from the next slot to be written. The slot before 0 is the last one.
+-- The newest slots of a ring (SCOPE, Ring), counted back from the next slot to be written. The slot before 0 is the last one.
 -- What the slots hold is handed in as a function of the slot's number.
 use Prim.Native.Nat.{ℕ, zero, suc, _+_, _-_}
 

@@ -1,4 +1,4 @@
--- The slots of a ring. Slot k of width b occupies the bits k·b to k·b + b − 1 of the ring's row of bits, its highest digit first.
+-- The slots of a ring (SCOPE, Ring). Slot k of width b occupies the bits k·b to k·b + b − 1 of the ring's row of bits, its highest digit first.
 use Prim.Native.Nat.{ℕ, _+_, _*_, _/_}
 use mathlib.Core.List.{List, _++_}
 use lib.ListN.{drop, replicate}

@@ -1,2 +1,3 @@
 pub mod Writing
+pub mod RowsFitTheirBuffer
 pub mod Demand1

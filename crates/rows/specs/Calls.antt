@@ -1,4 +1,4 @@
--- A line into a lent buffer: one row of data for every call, whatever the line says.
+-- A line into a lent buffer: one row of data for every call, whatever the line says (SCOPE, Refusals: 23).
 use Prim.Native.Nat.{ℕ}
 use mathlib.Core.List.{List, [], _∷_}
 use lib.Dec.{ltb}

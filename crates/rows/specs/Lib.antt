@@ -1,3 +1,4 @@
+pub mod Ascii
 pub mod Row
 pub mod Appended
 pub mod Calls

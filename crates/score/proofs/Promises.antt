@@ -14,6 +14,7 @@ use Rattle.score.specs.Calls.{scoreNumber, scoreCall}
 use Rattle.score.proofs.Counts.{near-still}
 pub use Rattle.score.proofs.Counts.{counted-none, counted-more, counted-le, counted-nowhere, counted-fewer, counted-same}
 pub use Rattle.score.proofs.Refused.{none-alike}
+pub use Rattle.score.proofs.Scored.{refusal-is}
 pub use Rattle.score.proofs.Demand1.{score-promised}
 
 module _ (bound allowance : ℕ) (first second : List ℕ) where

@@ -1,4 +1,4 @@
--- The score of two images: what is refused, in order, and the number that is given.
+-- The score of two images (SCOPE, Score): what is refused, in order, and the number that is given.
 use Prim.Native.Nat.{ℕ, min}
 use mathlib.Core.Bool.{not}
 use mathlib.Core.List.{List, [], _∷_}

@@ -1,4 +1,4 @@
--- Which positions of two images changed, and how many positions pass a test.
+-- Which positions of two images changed (SCOPE, Score), and how many positions pass a test.
 use Prim.Native.Nat.{ℕ, zero, suc, _+_, _-_}
 use mathlib.Core.Bool.{Bool, cond}
 use lib.Dec.{ltb}

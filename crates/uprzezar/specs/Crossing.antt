@@ -1,4 +1,4 @@
--- The two answers that do not cross to C as they are: a verdict crosses as numbers, and a raster as its place in the lent bytes.
+-- The two answers that do not cross to C as they are: a verdict crosses as numbers (SCOPE, Verdict), and a raster as its place in the lent bytes.
 use Prim.Native.Nat.{ℕ, zero, suc, _-_}
 use mathlib.Core.List.{List}
 use Rattle.book.specs.declared.verdicts.Verdict.the-variants.{Live, Frozen, Undecided}

@@ -1,7 +1,9 @@
 pub mod Starting
 pub mod Demand1
 pub mod Deciding
+pub mod OutcomeCases
 pub mod Stepping
 pub mod Streaming
 pub mod Whole
-pub mod Early
+pub mod RowsAreTrue
+pub mod RefusedTurns

@@ -1,123 +1,157 @@
--- A turn that does not wait is the same however the input goes on, so that a run over pieces writes what the whole input gives.
+-- An outcome that does not wait is the same, turn and ring, however the input goes on, so that a run over pieces writes what the whole input
+-- gives; and who waits has fewer bytes than an image may have.
 -- Assumes nothing.
-use Prim.Native.Nat.{ℕ, zero, suc, _+_, _-_}
-use native.Mathlib.Decide.{ℕ-discrete}
+use Prim.Native.Nat.{ℕ, _≤_, _<_}
 use native.Mathlib.Omega.{arith}
-use mathlib.Core.Bool.{Bool, true, false, cond, _||_}
+use mathlib.Core.Bool.{Bool, true, false, not, _&&_}
 use mathlib.Core.List.{List, _++_}
+use mathlib.Core.Logic.{_⊎_, inl, inr}
 use mathlib.Core.Path.{_≡_, refl, sym, ap, _∙_}
 use borrow.Author.Tests.{eq-eqb, ne-eqb}
 use lib.Dec.{eqb}
 use lib.ListN.{length, take, length-append}
 use lib.Seq.{length-take-le, take-append-le}
+use Rattle.refusals.specs.Numbers.{endsTooEarly}
+use Rattle.image.specs.Seen.{limit}
 use Rattle.image.specs.Reading.{numbersOf}
-use Rattle.image.proofs.Promises.{reading-lies, prefix-law}
+use Rattle.image.proofs.Promises as images
+use Rattle.rows.specs.declared.Scored.{Scored}
 use Rattle.watch.specs.declared.State.{State}
 use Rattle.watch.specs.declared.Line.{Line}
-use Rattle.watch.specs.declared.Turn.{Turn}
-use Rattle.watch.specs.declared.Turn.the-variants.{Row, Refused, Wait}
-use Rattle.refusals.specs.First.{unlessRefused}
-use Rattle.rows.specs.declared.Scored.{Scored}
-use Rattle.rows.specs.declared.Scored.the-variants.{First, By}
-use Rattle.refusals.specs.Call.{resultOf, leftOf}
-use Rattle.refusals.specs.Numbers.{endsTooEarly}
-use Rattle.book.specs.Calls.{addCall, totalCall}
-use Rattle.score.specs.declared.Answer.{Answer}
-use Rattle.score.specs.Calls.{scoreCall}
-use Rattle.watch.specs.Setting as setting
-use Rattle.watch.specs.Turn.{shownOf, countedOf, decidedOf, decidedRing, waits, turnOf, turnRing}
+use Rattle.watch.specs.declared.Turn.the-variants.{Row, Refused, Ends, Wait}
+use Rattle.watch.specs.Turn.{Outcome, shownOf, countedOf, decidedOf, outcomeOf}
+use Rattle.watch.proofs.Deciding.{none-yet, short-waits, decides}
+use Rattle.watch.proofs.OutcomeCases.{shown-cases, counted-cases, decided-cases, outcome-cases}
 
--- bytes at hand that do not wait
-pub record Decides (part : List ℕ) : Type 0 where
-  pub some : length part ≡ 0 → ⊥
-  pub whole : numbersOf part .refusal ≡ endsTooEarly → ⊥
+-- THE TURNS are four
+pub refused-no-row : {refusal : ℕ} {line : Line} → Refused refusal ≡ Row line → ⊥
+refused-no-row e = let z : _≡_ {A = ℕ} 0 1 = cc in omega arith
 
-decides-known : (part : List ℕ) → waits part false ≡ false → Decides part
-decides-known part w = by (ℕ-discrete (length part) 0) (ℕ-discrete (numbersOf part .refusal) endsTooEarly)
+pub wait-no-row : {line : Line} → Wait ≡ Row line → ⊥
+wait-no-row e = let z : _≡_ {A = ℕ} 0 1 = cc in omega arith
+
+pub ends-no-row : {line : Line} → Ends ≡ Row line → ⊥
+ends-no-row e = let z : _≡_ {A = ℕ} 0 1 = cc in omega arith
+
+pub refused-no-wait : {refusal : ℕ} → Refused refusal ≡ Wait → ⊥
+refused-no-wait e = let z : _≡_ {A = ℕ} 0 1 = cc in omega arith
+
+-- an image that decides does not wait
+shown-no-wait : (state : State) (ring : List ℕ) (scored : Scored) (used : ℕ) → shownOf state ring scored used ≡ Wait → ⊥
+shown-no-wait state ring scored used =
+    shown-cases state ring scored used (λ t. t ≡ Wait → ⊥) (λ none e. wait-no-row (sym e)) (λ refused. refused-no-wait)
+
+decided-no-wait : (state : State) (ring last rest : List ℕ) → decidedOf state ring last rest .turn ≡ Wait → ⊥
+decided-no-wait state ring last rest =
+    decided-cases state ring last rest (λ o. o .turn ≡ Wait → ⊥) (λ refused. refused-no-wait)
+    (λ taken first. shown-no-wait _ _ _ _)
+    (λ taken later. counted-cases state ring last _ (λ o. o .turn ≡ Wait → ⊥) (λ refused. refused-no-wait) (λ refused. refused-no-wait)
+    (λ scored added. shown-no-wait _ _ _ _))
+
+-- who waits has no byte, or an image that is cut: in either case fewer bytes than an image may have
+pub wait-short : (state : State) (ring last rest : List ℕ) → outcomeOf state ring last rest false .turn ≡ Wait → length rest < limit
+wait-short state ring last rest =
+    outcome-cases state ring last rest false (λ o. o .turn ≡ Wait → length rest < limit) (λ go why e. by why)
+    (λ over none e. absurd (let z : _≡_ {A = ℕ} 0 1 = cc in omega arith))
+    (λ some whole e. absurd (decided-no-wait state ring last rest e))
   where
-    clash : true ≡ false → ⊥
-    clash e = let z : _≡_ {A = ℕ} 0 1 = cc in omega arith
+    by : (length rest ≡ 0) ⊎ (numbersOf rest .refusal ≡ endsTooEarly) → length rest < limit
+    by (inl none) = omega arith
+    by (inr cut) = images.waits-short rest cut
 
-    by : Dec (length part ≡ 0) → Dec (numbersOf part .refusal ≡ endsTooEarly) → Decides part
-    by (yes e) other = absurd (clash (sym (ap (λ (b : Bool). b || eqb (numbersOf part .refusal) endsTooEarly) (eq-eqb (length part) 0 e)) ∙ w))
-    by (no ne) (yes e) =
-        absurd (clash (sym (rw (ne-eqb (length part) 0 ne, eq-eqb (numbersOf part .refusal) endsTooEarly e)) ∙ w))
-    by (no ne) (no nw) = record { some = ne; whole = nw }
+-- BYTES THAT DECIDE: there are some, and their image is not cut
+record Decides (part : List ℕ) : Type 0 where
+  some : length part ≡ 0 → ⊥
+  whole : numbersOf part .refusal ≡ endsTooEarly → ⊥
 
-module _ (state : State) (ring last part more : List ℕ) (decided : Decides part) where
-  same-numbers : numbersOf (part ++ more) ≡ numbersOf part
-  same-numbers = prefix-law part more (decided .whole)
+module _ (state : State) (ring last part : List ℕ) where
+  -- that are those whose outcome is not to wait
+  no-wait-decides : (outcomeOf state ring last part false .turn ≡ Wait → ⊥) → Decides part
+  no-wait-decides goes = record { some = some; whole = whole }
+    where
+      some : length part ≡ 0 → ⊥
+      some e = goes (sym (ap (λ (o : Outcome). o .turn) (none-yet state ring last part false e refl)))
 
-  same-image : take (numbersOf part .used) (part ++ more) ≡ take (numbersOf part .used) part
-  same-image = take-append-le (numbersOf part .used) part more (reading-lies part .there)
+      whole : numbersOf part .refusal ≡ endsTooEarly → ⊥
+      whole w =
+          goes (sym
+          (ap (λ (o : Outcome). o .turn)
+          (short-waits state ring last part false some refl (eq-eqb (numbersOf part .refusal) endsTooEarly w))))
 
-  pub decided-stays : (decidedOf state ring last (part ++ more) ≡ decidedOf state ring last part)
-      × (decidedRing state ring last (part ++ more) ≡ decidedRing state ring last part)
-  unfolding decidedOf decidedRing
-  decided-stays = rw (same-numbers, same-image) (refl, refl)
+  module _ (decided : Decides part) where
+    -- whether the input is over does not matter to such bytes
+    not-yet : (over : Bool) → (not over && eqb (numbersOf part .refusal) endsTooEarly) ≡ false
+    not-yet true = refl
+    not-yet false = ne-eqb (numbersOf part .refusal) endsTooEarly (decided .whole)
 
-  longer : length (part ++ more) ≡ 0 → ⊥
-  longer e = decided .some (omega (arith, length-append part more))
+    outcome-decides : (over : Bool) → outcomeOf state ring last part over ≡ decidedOf state ring last part
+    outcome-decides over = sym (decides state ring last part over (decided .some) refl (not-yet over))
 
-  -- whether the input is over does not matter to such bytes
-  goes : (over : Bool) → waits (part ++ more) over ≡ false
-  goes true = refl
-  goes false = rw (same-numbers, ne-eqb (length (part ++ more)) 0 longer, ne-eqb (numbersOf part .refusal) endsTooEarly (decided .whole))
+    module _ (more : List ℕ) where
+      same-numbers : numbersOf (part ++ more) ≡ numbersOf part
+      same-numbers = images.prefix-law part more (decided .whole)
 
-  pub turn-decides : (over : Bool) → (turnOf state ring last (part ++ more) over ≡ decidedOf state ring last part)
-      × (turnRing state ring last (part ++ more) over ≡ decidedRing state ring last part)
-  unfolding turnOf turnRing
-  turn-decides over = rw (goes over, ne-eqb (length (part ++ more)) 0 longer) decided-stays
+      same-image : take (numbersOf part .used) (part ++ more) ≡ take (numbersOf part .used) part
+      same-image = take-append-le (numbersOf part .used) part more (images.reading-lies part .there)
 
--- a row is not a wait
-pub row-decides : (state : State) (ring last part : List ℕ) (line : Line) → turnOf state ring last part false ≡ Row line → Decides part
-unfolding turnOf
-row-decides state ring last part line e = decides-known part (by (waits part false) refl)
-  where
-    by : (b : Bool) → waits part false ≡ b → waits part false ≡ false
-    by false q = q
-    by true q =
-        absurd (let w : Wait ≡ Row line = sym (rw q) ∙ e in let z : _≡_ {A = ℕ} 0 1 = cc in omega arith)
+      decided-stays : decidedOf state ring last (part ++ more) ≡ decidedOf state ring last part
+      unfolding decidedOf
+      decided-stays = rw (same-numbers, same-image)
 
--- the bytes that a row's image took
-shown-used : (state : State) (ring : List ℕ) (scored : Scored) (used : ℕ) (line : Line) → shownOf state ring scored used ≡ Row line → line .used ≡ used
-unfolding shownOf
-shown-used state ring scored used line = by (resultOf (totalCall (state .book) ring (state .book .kept)) .refusal) _
-  where
-    by : (m : ℕ) (row : Line) → unlessRefused m (Row row) (Refused m) ≡ Row line → line .used ≡ row .used
-    by zero row e = cc
-    by (suc m) row e = absurd (let z : _≡_ {A = ℕ} 0 1 = cc in omega arith)
+      decides-longer : Decides (part ++ more)
+      decides-longer =
+          record {
+            some = λ e. decided .some (omega (arith, length-append part more));
+            whole = λ w. decided .whole (sym (ap (λ n. n .refusal) same-numbers) ∙ w);
+          }
 
-counted-used : (state : State) (ring last image : List ℕ) (line : Line) → countedOf state ring last image ≡ Row line → line .used ≡ length image
-unfolding countedOf
+-- THE OUTCOME STAYS, whatever comes behind and whether that is all
+pub outcome-stays : (state : State) (ring last part more : List ℕ) → (outcomeOf state ring last part false .turn ≡ Wait → ⊥) → (over : Bool)
+    → outcomeOf state ring last (part ++ more) over ≡ outcomeOf state ring last part false
+outcome-stays state ring last part more goes over =
+    let decided = no-wait-decides state ring last part goes in
+    outcome-decides state ring last (part ++ more) (decides-longer state ring last part decided more) over
+    ∙ decided-stays state ring last part decided more
+    ∙ sym (outcome-decides state ring last part decided false)
+
+-- A ROW: its image is taken, and it used that image's bytes
+abbrev Took : List ℕ → Line → Type 0
+Took rest line = (numbersOf rest .refusal ≡ 0) × (line .used ≡ numbersOf rest .used)
+
+shown-used : (state : State) (ring : List ℕ) (scored : Scored) (used : ℕ) (line : Line) → shownOf state ring scored used ≡ Row line
+    → line .used ≡ used
+shown-used state ring scored used line =
+    shown-cases state ring scored used (λ t. t ≡ Row line → line .used ≡ used) (λ none e. cc) (λ refused e. absurd (refused-no-row e))
+
+counted-used : (state : State) (ring last image : List ℕ) (line : Line) → countedOf state ring last image .turn ≡ Row line
+    → line .used ≡ length image
 counted-used state ring last image line =
-    by (score .refusal) (resultOf (addCall (state .book) ring (score .value)) .refusal)
-  where
-    score : Answer
-    score = resultOf (scoreCall setting.bound setting.allowance last image)
+    counted-cases state ring last image (λ o. o .turn ≡ Row line → line .used ≡ length image) (λ refused e. absurd (refused-no-row e))
+    (λ refused e. absurd (refused-no-row e)) (λ scored added. shown-used _ _ _ _ line)
 
-    shown : Turn
-    shown =
-        let adding = addCall (state .book) ring (score .value) in
-        shownOf (record { book = resultOf adding .book; frames = state .frames }) (leftOf adding) (By (score .value)) (length image)
+decided-took : (state : State) (ring last rest : List ℕ) (line : Line) → decidedOf state ring last rest .turn ≡ Row line → Took rest line
+decided-took state ring last rest line =
+    decided-cases state ring last rest (λ o. o .turn ≡ Row line → Took rest line) (λ refused e. absurd (refused-no-row e))
+    (λ taken first e. (taken, shown-used _ _ _ _ line e))
+    (λ taken later e. (
+      taken,
+      counted-used state ring last _ line e ∙ length-take-le (numbersOf rest .used) rest (images.reading-lies rest .there),
+    ))
 
-    by : (m k : ℕ) → unlessRefused m (unlessRefused k shown (Refused k)) (Refused m) ≡ Row line → line .used ≡ length image
-    by zero zero e = shown-used _ _ _ _ line e
-    by zero (suc k) e = absurd (let z : _≡_ {A = ℕ} 0 1 = cc in omega arith)
-    by (suc m) k e = absurd (let z : _≡_ {A = ℕ} 0 1 = cc in omega arith)
+module _ (state : State) (ring last rest : List ℕ) (over : Bool) (line : Line) (row : outcomeOf state ring last rest over .turn ≡ Row line) where
+  took : Took rest line
+  took =
+      outcome-cases state ring last rest over (λ o. o .turn ≡ Row line → Took rest line) (λ go why e. absurd (wait-no-row e))
+      (λ done none e. absurd (ends-no-row e)) (λ some whole. decided-took state ring last rest line) row
 
-pub decided-used : (state : State) (ring last part : List ℕ) (line : Line) → decidedOf state ring last part ≡ Row line
-    → (numbersOf part .refusal ≡ 0) × (line .used ≡ numbersOf part .used)
-unfolding decidedOf
-decided-used state ring last part line = by (numbersOf part .refusal) (eqb (state .frames) 0) refl
-  where
-    used : ℕ
-    used = numbersOf part .used
+  -- some bytes, of those at hand
+  pub row-used : (0 < line .used) × (line .used ≤ length rest)
+  row-used = rw (took .1) (images.used-some rest (took .0), images.reading-lies rest .there)
 
-    by : (m : ℕ) (b : Bool) → numbersOf part .refusal ≡ m
-        → unlessRefused m (cond b (shownOf state ring First used) (countedOf state ring last (take used part))) (Refused m) ≡ Row line
-        → (numbersOf part .refusal ≡ 0) × (line .used ≡ used)
-    by zero true q e = (q, shown-used state ring First used line e)
-    by zero false q e =
-        (q, counted-used state ring last (take used part) line e ∙ length-take-le used part (reading-lies part .there))
-    by (suc m) b q e = absurd (let z : _≡_ {A = ℕ} 0 1 = cc in omega arith)
+  row-decides : Decides rest
+  row-decides = record { some = λ e. omega (arith, row-used .0, row-used .1); whole = λ w. omega (arith, took .0, w) }
+
+  -- and the row and the ring do not depend on whether the input is over
+  pub row-either-way : (other : Bool) → outcomeOf state ring last rest other ≡ outcomeOf state ring last rest over
+  row-either-way other =
+      outcome-decides state ring last rest row-decides other ∙ sym (outcome-decides state ring last rest row-decides over)

@@ -1,137 +1,153 @@
--- A run that gets its input in pieces writes the output of the whole input (ledger P.1): at each moment what is written, with the rows
--- of all that is at hand and unread, is that output.
+-- A run that gets its input in pieces writes the output of the whole input (promise P.1): at each moment what is written, with the rows
+-- of all that is at hand and unread, is that output; so it is with the last turn at the end of the input, and with a refusal at any time.
 -- Assumes nothing.
-use Prim.Native.Nat.{ℕ, zero, suc, _+_, _-_, _≤_, _<_}
+use Prim.Native.Nat.{ℕ, zero, suc, _+_, _-_, _<_}
 use native.Mathlib.Omega.{arith}
-use mathlib.Core.Bool.{Bool, true, false, cond}
+use mathlib.Core.Bool.{true, false}
 use mathlib.Core.List.{List, [], _++_, append-assoc, append-nil}
-use mathlib.Core.Path.{_≡_, refl, sym, ap, _∙_}
+use mathlib.Core.Path.{_≡_, refl, sym, ap, subst, _∙_}
 use lib.ListN.{length, take, drop, length-append, length-drop}
-use lib.Dec.{eqb}
 use lib.Seq.{take-append-le, drop-append-le}
-use Rattle.image.proofs.Promises as images
+use Rattle.image.specs.Seen.{limit}
+use Rattle.rows.specs.Row.{headText}
 use Rattle.watch.specs.declared.State.{State}
 use Rattle.watch.specs.declared.Line.{Line}
 use Rattle.watch.specs.declared.Turn.{Turn}
 use Rattle.watch.specs.declared.Turn.the-variants.{Row, Refused, Ends, Wait}
-use Rattle.rows.specs.Row.{headText}
-use Rattle.watch.specs.Turn.{frameAfter, decidedOf, decidedRing, turnOf, turnRing}
-use Rattle.watch.specs.Calls.{textOf, stepText}
-use Rattle.watch.specs.Output.{rowsFrom, firstState, firstRing, outputOf, Runs, begins, reads, turns}
-use Rattle.watch.proofs.Streaming.{Decides, row-decides, turn-decides, decided-used}
+use Rattle.watch.specs.Turn.{Outcome, outcomeOf}
+use Rattle.watch.specs.Calls.{stepText}
+use Rattle.watch.specs.Output.{thenRows, rowsFrom, firstState, firstRing, outputOf, Moment, outcomeAt, Runs, begins, reads, turns}
+use Rattle.watch.proofs.Streaming.{refused-no-row, wait-no-row, refused-no-wait, wait-short, outcome-stays, row-used, row-either-way}
 
--- a row over some bytes is the row over all, and takes some of them
-module _ (state : State) (ring last hand more : List ℕ) (line : Line) (row : turnOf state ring last hand false ≡ Row line) where
-  decided : Decides hand
-  decided = row-decides state ring last hand line row
+-- THE ROWS OF A REST, where the outcome of its first turn is known
+module _ (n : ℕ) (state : State) (ring last rest : List ℕ) (outcome : Outcome) (first : outcomeOf state ring last rest true ≡ outcome) where
+  rows-by : rowsFrom (suc n) state ring last rest
+      ≡ stepText state (outcome .turn)
+      ++ thenRows (outcome .turn) (λ line. rowsFrom n (line .state) (outcome .ring) (take (line .used) rest) (drop (line .used) rest))
+  unfolding rowsFrom
+  rows-by = rw first
 
-  here : (turnOf state ring last (hand ++ []) false ≡ decidedOf state ring last hand) × (turnRing state ring last (hand ++ []) false ≡ decidedRing state ring last hand)
-  here = turn-decides state ring last hand [] decided false
-
-  decided-row : decidedOf state ring last hand ≡ Row line
-  decided-row = sym (here .0) ∙ ap (λ (l : List ℕ). turnOf state ring last l false) (append-nil hand) ∙ row
-
-  pub same-row : turnOf state ring last (hand ++ more) true ≡ Row line
-  same-row = turn-decides state ring last hand more decided true .0 ∙ decided-row
-
-  pub same-ring : turnRing state ring last (hand ++ more) true ≡ turnRing state ring last hand false
-  same-ring =
-      turn-decides state ring last hand more decided true .1
-      ∙ sym (here .1)
-      ∙ ap (λ (l : List ℕ). turnRing state ring last l false) (append-nil hand)
-
-  pub used-there : line .used ≤ length hand
-  used-there = rw (decided-used state ring last hand line decided-row .1) (images.reading-lies hand .there)
-
-  pub used-some : 0 < line .used
-  used-some =
-      let u = decided-used state ring last hand line decided-row in
-      rw (u .1) (images.used-some hand (u .0))
-
--- where the input is over, a row comes of an image that decides
-over-decided : (state : State) (ring last rest : List ℕ) (line : Line) → turnOf state ring last rest true ≡ Row line → decidedOf state ring last rest ≡ Row line
-unfolding turnOf
-over-decided state ring last rest line = by (eqb (length rest) 0)
-  where
-    by : (b : Bool) → cond b Ends (decidedOf state ring last rest) ≡ Row line → decidedOf state ring last rest ≡ Row line
-    by true e = absurd (let z : _≡_ {A = ℕ} 0 1 = cc in omega arith)
-    by false e = e
+  -- a turn that is no row is the last
+  rows-end : ((line : Line) → outcome .turn ≡ Row line → ⊥) → rowsFrom (suc n) state ring last rest ≡ stepText state (outcome .turn)
+  rows-end none = rows-by ∙ by (outcome .turn) none _
+    where
+      by : (turn : Turn) → ((line : Line) → turn ≡ Row line → ⊥) → (rows : Line → List ℕ)
+          → stepText state turn ++ thenRows turn rows ≡ stepText state turn
+      by (Row line) never rows = absurd (never line refl)
+      by (Refused refusal) never rows = append-nil (stepText state (Refused refusal))
+      by Ends never rows = refl
+      by Wait never rows = refl
 
 -- more turns than there are bytes change nothing
 rows-enough : (f g : ℕ) (state : State) (ring last rest : List ℕ) → length rest < f → length rest < g
     → rowsFrom f state ring last rest ≡ rowsFrom g state ring last rest
-unfolding rowsFrom stepText
+unfolding rowsFrom
 rows-enough zero g state ring last rest hf hg = absurd (omega arith)
 rows-enough (suc f) zero state ring last rest hf hg = absurd (omega arith)
 rows-enough (suc f) (suc g) state ring last rest hf hg =
-    by (turnOf state ring last rest true) refl
-    (λ line e. rows-enough f g (line .state) (turnRing state ring last rest true) (take (line .used) rest) (drop (line .used) rest)
-    (shorter line e f hf) (shorter line e g hg))
+    ap (λ (l : List ℕ). stepText state (outcome .turn) ++ l)
+    (by (outcome .turn) refl
+    (λ line e. rows-enough f g (line .state) (outcome .ring) (take (line .used) rest) (drop (line .used) rest)
+    (shorter line e f hf) (shorter line e g hg)))
   where
-    shorter : (line : Line) → turnOf state ring last rest true ≡ Row line → (n : ℕ) → length rest < suc n → length (drop (line .used) rest) < n
-    shorter line e n h =
-        let u = decided-used state ring last rest line (over-decided state ring last rest line e) in
-        rw (length-drop (line .used) rest, u .1) (omega (arith, images.used-some rest (u .0), images.reading-lies rest .there))
+    outcome : Outcome
+    outcome = outcomeOf state ring last rest true
 
-    by : (t : Turn) → turnOf state ring last rest true ≡ t
-        → ((line : Line) → turnOf state ring last rest true ≡ Row line
-        → rowsFrom f (line .state) (turnRing state ring last rest true) (take (line .used) rest) (drop (line .used) rest)
-        ≡ rowsFrom g (line .state) (turnRing state ring last rest true) (take (line .used) rest) (drop (line .used) rest))
-        → rowsFrom (suc f) state ring last rest ≡ rowsFrom (suc g) state ring last rest
-    by (Row line) e same = rw e (ap (λ (l : List ℕ). textOf (frameAfter (state .frames)) (Row line) ++ l) (same line e))
-    by (Refused refusal) e same = rw e
-    by Ends e same = rw e
-    by Wait e same = rw e
+    shorter : (line : Line) → outcome .turn ≡ Row line → (n : ℕ) → length rest < suc n → length (drop (line .used) rest) < n
+    shorter line e n h =
+        let used = row-used state ring last rest true line e in
+        rw (length-drop (line .used) rest) (omega (arith, used .0, used .1))
+
+    rows : ℕ → Line → List ℕ
+    rows n line = rowsFrom n (line .state) (outcome .ring) (take (line .used) rest) (drop (line .used) rest)
+
+    by : (turn : Turn) → outcome .turn ≡ turn → ((line : Line) → outcome .turn ≡ Row line → rows f line ≡ rows g line)
+        → thenRows turn (rows f) ≡ thenRows turn (rows g)
+    by (Row line) e same = same line e
+    by (Refused refusal) e same = refl
+    by Ends e same = refl
+    by Wait e same = refl
 
 -- a row that the bytes at hand give is the first of the rows of all that is to come
-row-first : (n : ℕ) (state : State) (ring last hand more : List ℕ) (line : Line) → turnOf state ring last hand false ≡ Row line
+row-first : (n : ℕ) (state : State) (ring last hand more : List ℕ) (line : Line) → outcomeOf state ring last hand false .turn ≡ Row line
     → rowsFrom (suc n) state ring last (hand ++ more)
-    ≡ textOf (frameAfter (state .frames)) (Row line)
-    ++ rowsFrom n (line .state) (turnRing state ring last hand false) (take (line .used) hand) (drop (line .used) hand ++ more)
-unfolding rowsFrom stepText
+    ≡ stepText state (Row line)
+    ++ rowsFrom n (line .state) (outcomeOf state ring last hand false .ring) (take (line .used) hand) (drop (line .used) hand ++ more)
 row-first n state ring last hand more line row =
-    let there : line .used ≤ length hand = used-there state ring last hand more line row in
-    rw (
-      same-row state ring last hand more line row,
-      same-ring state ring last hand more line row,
-      take-append-le (line .used) hand more there,
-      drop-append-le (line .used) hand more there,
-    )
+    let there = row-used state ring last hand false line row .1 in
+    rows-by n state ring last (hand ++ more) _
+    (outcome-stays state ring last hand more (λ wait. wait-no-row (sym wait ∙ row)) true)
+    ∙ rw (row, take-append-le (line .used) hand more there, drop-append-le (line .used) hand more there)
 
--- at each moment of a run: what is written, and the rows of all that is to come, is the output of the whole input
-pub runs-right : (input written : List ℕ) (state : State) (ring last hand unread : List ℕ) → Runs input written state ring last hand unread
-    → (f : ℕ) → length (hand ++ unread) < f → written ++ rowsFrom f state ring last (hand ++ unread) ≡ outputOf input
-unfolding outputOf rowsFrom stepText
-runs-right input written state ring last hand unread begins f h =
+-- AT EACH MOMENT of a run: what is written, and the rows of all that is to come, is the output of the whole input
+pub runs-right : (input : List ℕ) (moment : Moment) → Runs input moment → (f : ℕ) → length (moment .hand ++ moment .unread) < f
+    → moment .written ++ rowsFrom f (moment .state) (moment .ring) (moment .last) (moment .hand ++ moment .unread) ≡ outputOf input
+unfolding outputOf
+runs-right input moment begins f h =
     ap (λ (l : List ℕ). headText ++ l)
     (rows-enough f (suc (length input)) firstState firstRing [] input h (omega arith))
-runs-right input written state ring last hand unread (reads w s r l before piece after run) f h =
-    rw (append-assoc before piece after) (runs-right input w s r l before (piece ++ after) run f (rw (append-assoc before piece after) at h))
-runs-right input written state ring last hand unread (turns w s r l before after run line row) f h =
+runs-right input moment (reads before run piece unread split) f h =
+    let same : (before .hand ++ piece) ++ unread ≡ before .hand ++ before .unread =
+    append-assoc (before .hand) piece unread ∙ ap (λ (l : List ℕ). before .hand ++ l) (sym split) in
+    ap (λ (l : List ℕ). before .written ++ rowsFrom f (before .state) (before .ring) (before .last) l) same
+    ∙ runs-right input before run f (subst (λ l. length l < f) same h)
+runs-right input moment (turns before run line row) f h =
+    let hand = before .hand in
+    let unread = before .unread in
     let n : ℕ = f + line .used in
-    let there : line .used ≤ length before = used-there s r l before after line row in
-    let left : length (drop (line .used) before ++ after) ≡ length before - line .used + length after =
-    length-append (drop (line .used) before) after ∙ ap (λ (k : ℕ). k + length after) (length-drop (line .used) before) in
-    ap (λ (t : Turn). (w ++ textOf (frameAfter (s .frames)) t) ++ rowsFrom f (line .state) (turnRing s r l before false) (take (line .used) before) (drop (line .used) before ++ after)) row
-    ∙ append-assoc w (textOf (frameAfter (s .frames)) (Row line)) _
-    ∙ ap (λ (t : List ℕ). w ++ (textOf (frameAfter (s .frames)) (Row line) ++ t))
-    (rows-enough f n (line .state) (turnRing s r l before false) (take (line .used) before) (drop (line .used) before ++ after) h (omega arith))
-    ∙ ap (λ (t : List ℕ). w ++ t) (sym (row-first n s r l before after line row))
-    ∙ runs-right input w s r l before after run (suc n) (rw (length-append before after) (omega arith))
+    let left = drop (line .used) hand ++ unread in
+    let used = row-used (before .state) (before .ring) (before .last) hand false line row in
+    let fewer : length left ≡ length hand - line .used + length unread =
+    length-append (drop (line .used) hand) unread ∙ ap (λ (k : ℕ). k + length unread) (length-drop (line .used) hand) in
+    append-assoc (before .written) (stepText (before .state) (Row line)) _
+    ∙ ap (λ (t : List ℕ). before .written ++ (stepText (before .state) (Row line) ++ t))
+    (rows-enough f n (line .state) (outcomeAt before false .ring) (take (line .used) hand) left h (omega (arith, used .1)))
+    ∙ ap (λ (t : List ℕ). before .written ++ t) (sym (row-first n (before .state) (before .ring) (before .last) hand unread line row))
+    ∙ runs-right input before run (suc n) (rw (length-append hand unread) (omega (arith, used .1)))
+
+-- a turn over all that is to come, if it is no row, completes the output
+last-turn : (input : List ℕ) (moment : Moment) → Runs input moment → (outcome : Outcome)
+    → outcomeOf (moment .state) (moment .ring) (moment .last) (moment .hand ++ moment .unread) true ≡ outcome
+    → ((line : Line) → outcome .turn ≡ Row line → ⊥) → moment .written ++ stepText (moment .state) (outcome .turn) ≡ outputOf input
+last-turn input moment run outcome is none =
+    let all = moment .hand ++ moment .unread in
+    ap (λ (t : List ℕ). moment .written ++ t) (sym (rows-end (length all) (moment .state) (moment .ring) (moment .last) all outcome is none))
+    ∙ runs-right input moment run (suc (length all)) (omega arith)
 
 -- AT THE END of the input the last turn is no row, and what it writes completes the output
-pub end-right : (input written : List ℕ) (state : State) (ring last hand : List ℕ) → Runs input written state ring last hand []
-    → ((line : Line) → turnOf state ring last hand true ≡ Row line → ⊥)
-    → written ++ stepText state ring last hand true ≡ outputOf input
-unfolding rowsFrom stepText
-end-right input written state ring last hand run none =
-    sym (ap (λ (t : List ℕ). written ++ t) (by (turnOf state ring last hand true) refl))
-    ∙ ap (λ (l : List ℕ). written ++ rowsFrom (suc (length hand)) state ring last l) (sym (append-nil hand))
-    ∙ runs-right input written state ring last hand [] run (suc (length hand)) (rw (append-nil hand) (omega arith))
-  where
-    by : (t : Turn) → turnOf state ring last hand true ≡ t
-        → rowsFrom (suc (length hand)) state ring last hand ≡ stepText state ring last hand true
-    by (Row line) e = absurd (none line e)
-    by (Refused refusal) e = rw e (append-nil (textOf (frameAfter (state .frames)) (Refused refusal)))
-    by Ends e = rw e
-    by Wait e = rw e
+pub end-right : (input : List ℕ) (moment : Moment) → Runs input moment → moment .unread ≡ []
+    → ((line : Line) → outcomeAt moment true .turn ≡ Row line → ⊥)
+    → moment .written ++ stepText (moment .state) (outcomeAt moment true .turn) ≡ outputOf input
+end-right input moment run all none =
+    last-turn input moment run (outcomeAt moment true)
+    (ap (λ (l : List ℕ). outcomeOf (moment .state) (moment .ring) (moment .last) l true)
+    (ap (λ (l : List ℕ). moment .hand ++ l) all ∙ append-nil (moment .hand)))
+    none
+
+-- A REFUSAL ends the run: whatever is unread, that is the whole output …
+pub refused-right : (input : List ℕ) (moment : Moment) → Runs input moment → (refusal : ℕ) → outcomeAt moment false .turn ≡ Refused refusal
+    → moment .written ++ stepText (moment .state) (Refused refusal) ≡ outputOf input
+refused-right input moment run refusal refused =
+    ap (λ (t : Turn). moment .written ++ stepText (moment .state) t) (sym refused)
+    ∙ last-turn input moment run (outcomeAt moment false)
+    (outcome-stays (moment .state) (moment .ring) (moment .last) (moment .hand) (moment .unread)
+    (λ wait. refused-no-wait (sym refused ∙ wait)) true)
+    (λ line row. refused-no-row (sym refused ∙ row))
+
+-- … and at the end of the input, where an image that is cut is refused too
+pub refused-at-end : (input : List ℕ) (moment : Moment) → Runs input moment → moment .unread ≡ [] → (refusal : ℕ)
+    → outcomeAt moment true .turn ≡ Refused refusal → moment .written ++ stepText (moment .state) (Refused refusal) ≡ outputOf input
+refused-at-end input moment run all refusal refused =
+    ap (λ (t : Turn). moment .written ++ stepText (moment .state) t) (sym refused)
+    ∙ end-right input moment run all (λ line row. refused-no-row (sym refused ∙ row))
+
+-- A ROW AT THE END of the input is the row that the same bytes give before it, so that it is a turn of a run too
+pub over-row : (moment : Moment) (line : Line) → outcomeAt moment true .turn ≡ Row line
+    → (outcomeAt moment false .turn ≡ Row line) × (outcomeAt moment false .ring ≡ outcomeAt moment true .ring)
+over-row moment line row =
+    let same = row-either-way (moment .state) (moment .ring) (moment .last) (moment .hand) true line row false in
+    (ap (λ (o : Outcome). o .turn) same ∙ row, ap (λ (o : Outcome). o .ring) same)
+
+-- WHO WAITS has room for more: fewer bytes are at hand than an image may have
+pub waits-for-more : (moment : Moment) → outcomeAt moment false .turn ≡ Wait → length (moment .hand) < limit
+waits-for-more moment = wait-short (moment .state) (moment .ring) (moment .last) (moment .hand)

@@ -1,4 +1,4 @@
--- The two calls as rows of data: opening the book of the setting, and one turn with its row in a lent buffer.
+-- The two calls as rows of data: opening the book of the setting, and one turn with its row in a lent buffer (SCOPE, Refusals).
 use Prim.Native.Nat.{ℕ}
 use mathlib.Core.Bool.{Bool}
 use mathlib.Core.List.{List, [], _∷_}
@@ -18,7 +18,7 @@ use Rattle.watch.specs.declared.Turn.{Turn}
 use Rattle.watch.specs.declared.Turn.the-variants.{Row, Refused, Ends, Wait}
 use Rattle.watch.specs.declared.Stepped.{Stepped}
 use Rattle.watch.specs.Setting as setting
-use Rattle.watch.specs.Turn.{frameAfter, turnOf, turnRing}
+use Rattle.watch.specs.Turn.{frameAfter, outcomeOf}
 
 -- the opening of the setting's book in a lent ring
 abbrev pub opening : List ℕ → Call Updated (List ℕ)
@@ -40,18 +40,19 @@ textOf frame Ends = []
 textOf frame Wait = []
 
 -- what a step writes: the row of its turn, for the frame behind those that have come
-unfoldable pub stepText : State → List ℕ → List ℕ → List ℕ → Bool → List ℕ
-stepText state ring last rest over = textOf (frameAfter (state .frames)) (turnOf state ring last rest over)
+abbrev pub stepText : State → Turn → List ℕ
+stepText state turn = textOf (frameAfter (state .frames)) turn
 
 -- A step: 23. It gives the turn and the bytes of its row, and leaves the ring as the turn does and the row at the start of the buffer; a
 -- frame that is refused is a turn of its own, with a row
 unfoldable pub stepCall : State → List ℕ → List ℕ → List ℕ → Bool → List ℕ → Call Stepped (List ℕ × List ℕ)
 stepCall state ring last rest over out =
-    let text = stepText state ring last rest over in
+    let outcome = outcomeOf state ring last rest over in
+    let text = stepText state (outcome .turn) in
     record {
       faults = (ltb (length out) lineMost gives bufferTooShort) ∷ [];
-      given = record { refusal = 0; turn = turnOf state ring last rest over; wrote = length text };
-      left = (turnRing state ring last rest over, sets out 0 text);
+      given = record { refusal = 0; turn = outcome .turn; wrote = length text };
+      left = (outcome .ring, sets out 0 text);
       back = λ number. record { refusal = number; turn = Refused number; wrote = 0 };
       lent = (ring, out);
     }

@@ -2,4 +2,4 @@ pub mod Setting
 pub mod Turn
 pub mod Calls
 pub mod Output
-pub mod GoodRun
+pub mod TrueRows

@@ -1,4 +1,4 @@
--- The program's setting: paper 01, "The program". The same numbers stand in src/setting.rt.
+-- The program's setting: SCOPE, Program. The same numbers stand in src/setting.rt.
 use Prim.Native.Nat.{ℕ}
 
 -- pixels that differ by no more are the same

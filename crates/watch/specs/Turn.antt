@@ -1,4 +1,4 @@
--- What a frame leads to, in the program's setting (specs/Setting.antt).
+-- What a frame leads to (SCOPE, Program), in the program's setting (specs/Setting.antt).
 use Prim.Native.Nat.{ℕ, _+_, min}
 use mathlib.Core.Bool.{Bool, not, cond, _&&_, _||_}
 use mathlib.Core.List.{List}
@@ -50,48 +50,47 @@ shownOf state ring scored used =
     }))
     (Refused (total .refusal))
 
+-- what the bytes at hand lead to, and the ring as it is left
+pub record Outcome : Type 0 where
+  pub turn : Turn
+  pub ring : List ℕ
+
+-- a refused turn leaves the ring as it was
+abbrev pub refusedTurn : List ℕ → ℕ → Outcome
+refusedTurn ring refusal = record { turn = Refused refusal; ring = ring }
+
 -- an image after the first: its score against the image before goes into the book, and what the book then says is shown
-unfoldable pub countedOf : State → List ℕ → List ℕ → List ℕ → Turn
+unfoldable pub countedOf : State → List ℕ → List ℕ → List ℕ → Outcome
 countedOf state ring last image =
     let score = resultOf (scoreCall setting.bound setting.allowance last image) in
     let adding = addCall (state .book) ring (score .value) in
     let added = resultOf adding in
     unlessRefused (score .refusal)
     (unlessRefused (added .refusal)
-    (shownOf (record { book = added .book; frames = state .frames }) (leftOf adding) (By (score .value)) (length image))
-    (Refused (added .refusal)))
-    (Refused (score .refusal))
+    (record {
+      turn = shownOf (record { book = added .book; frames = state .frames }) (leftOf adding) (By (score .value)) (length image);
+      ring = leftOf adding;
+    })
+    (refusedTurn ring (added .refusal)))
+    (refusedTurn ring (score .refusal))
 
-unfoldable pub countedRing : State → List ℕ → List ℕ → List ℕ → List ℕ
-countedRing state ring last image =
-    let score = resultOf (scoreCall setting.bound setting.allowance last image) in
-    unlessRefused (score .refusal) (leftOf (addCall (state .book) ring (score .value))) ring
-
--- the turn of an image that is whole, or refused
-unfoldable pub decidedOf : State → List ℕ → List ℕ → List ℕ → Turn
+-- an image that is whole, or refused
+unfoldable pub decidedOf : State → List ℕ → List ℕ → List ℕ → Outcome
 decidedOf state ring last rest =
     let numbers = numbersOf rest in
     unlessRefused (numbers .refusal)
-    (cond (eqb (state .frames) 0) (shownOf state ring First (numbers .used))
+    (cond (eqb (state .frames) 0)
+    (record { turn = shownOf state ring First (numbers .used); ring = ring })
     (countedOf state ring last (take (numbers .used) rest)))
-    (Refused (numbers .refusal))
-
-unfoldable pub decidedRing : State → List ℕ → List ℕ → List ℕ → List ℕ
-decidedRing state ring last rest =
-    let numbers = numbersOf rest in
-    unlessRefused (numbers .refusal)
-    (cond (eqb (state .frames) 0) ring (countedRing state ring last (take (numbers .used) rest)))
-    ring
+    (refusedTurn ring (numbers .refusal))
 
 -- more bytes are needed: there are none yet, or they end within an image
 abbrev pub waits : List ℕ → Bool → Bool
 waits rest over = not over && (eqb (length rest) 0 || eqb (numbersOf rest .refusal) endsTooEarly)
 
--- the turn of the bytes at hand: it waits; or the input is at its end; or the image decides
-unfoldable pub turnOf : State → List ℕ → List ℕ → List ℕ → Bool → Turn
-turnOf state ring last rest over =
-    cond (waits rest over) Wait (cond (eqb (length rest) 0) Ends (decidedOf state ring last rest))
-
-unfoldable pub turnRing : State → List ℕ → List ℕ → List ℕ → Bool → List ℕ
-turnRing state ring last rest over =
-    cond (waits rest over) ring (cond (eqb (length rest) 0) ring (decidedRing state ring last rest))
+-- the bytes at hand: it waits; or the input is at its end; or the image decides
+unfoldable pub outcomeOf : State → List ℕ → List ℕ → List ℕ → Bool → Outcome
+outcomeOf state ring last rest over =
+    cond (waits rest over)
+    (record { turn = Wait; ring = ring })
+    (cond (eqb (length rest) 0) (record { turn = Ends; ring = ring }) (decidedOf state ring last rest))

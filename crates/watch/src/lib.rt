@@ -1,8 +1,8 @@
 // What a frame leads to: the score against the frame before it goes into the book, and a row tells what the book now says.
-// What a turn decides and leaves is defined in specs/Turn.antt; the two calls in specs/Calls.antt; the whole output in specs/Output.antt.
+// What a turn comes to is defined in specs/Turn.antt; the two calls in specs/Calls.antt; the whole output in specs/Output.antt.
 ghost use mathlib.Core.Path.{_≡_};
 ghost use Rattle.refusals.specs.Call.{resultOf, leftOf};
-ghost use Rattle.watch.specs.Turn.{turnOf, turnRing};
+ghost use Rattle.watch.specs.Turn.{outcomeOf};
 ghost use Rattle.watch.specs.Calls.{startCall, stepCall};
 use book::Book;
 use refusals::BUFFER_TOO_SHORT;
@@ -93,7 +93,7 @@ pub fn step(
 
 // What the bytes at hand lead to; nothing is written yet.
 fn decide(state: State, ring: &mut [u8], last: &[u8], rest: &[u8], over: bool) -> Turn
-    ensures { λ r. ⌜ (r ≡ turnOf state (now (ring .entry)) (now (last .entry)) (now (rest .entry)) over) × (now (ring .exit) ≡ turnRing state (now (ring .entry)) (now (last .entry)) (now (rest .entry)) over) ⌝ }
+    ensures { λ r. ⌜ (r ≡ outcomeOf state (now (ring .entry)) (now (last .entry)) (now (rest .entry)) over .turn) × (now (ring .exit) ≡ outcomeOf state (now (ring .entry)) (now (last .entry)) (now (rest .entry)) over .ring) ⌝ }
 {
     if rest.len() == 0 {
         if over {

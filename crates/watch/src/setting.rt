@@ -1,4 +1,4 @@
-// The program's setting: paper 01, "The program". The same numbers stand in specs/Setting.antt for the statements.
+// The program's setting: SCOPE, Program. The same numbers stand in specs/Setting.antt for the statements.
 
 // Pixels that differ by no more are the same.
 pub const ALLOWANCE: u8 = 12;

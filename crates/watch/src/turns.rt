@@ -3,7 +3,7 @@ ghost use mathlib.Core.Path.{_≡_};
 ghost use mathlib.Core.Bool.{not, _&&_};
 ghost use lib.Dec.{eqb};
 ghost use Rattle.refusals.specs.Numbers.{endsTooEarly};
-ghost use Rattle.watch.specs.Turn.{wordOf, frameAfter, shownOf, countedOf, countedRing};
+ghost use Rattle.watch.specs.Turn.{wordOf, frameAfter, shownOf, countedOf};
 use crate::Line;
 use crate::State;
 use crate::Turn;
@@ -74,7 +74,7 @@ pub(crate) fn shown(state: State, ring: &[u8], scored: Scored, used: usize) -> T
 
 // The frame's score goes into the book.
 pub(crate) fn counted(state: State, ring: &mut [u8], last: &[u8], image: &[u8]) -> Turn
-    ensures { λ r. ⌜ (r ≡ countedOf state (now (ring .entry)) (now (last .entry)) (now (image .entry))) × (now (ring .exit) ≡ countedRing state (now (ring .entry)) (now (last .entry)) (now (image .entry))) ⌝ }
+    ensures { λ r. ⌜ (r ≡ countedOf state (now (ring .entry)) (now (last .entry)) (now (image .entry)) .turn) × (now (ring .exit) ≡ countedOf state (now (ring .entry)) (now (last .entry)) (now (image .entry)) .ring) ⌝ }
 {
     let score = score::score(setting::BOUND, setting::ALLOWANCE, last, image);
     if score.refusal != 0 {

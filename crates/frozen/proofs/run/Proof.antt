@@ -1,139 +1,87 @@
--- `frozen::run` ends, and its three buffers keep their lengths.
+-- `frozen::run`: with the ring that it is lent the book opens as a run of watch begins, and the first line is written.
 -- Assumes nothing.
-use mathlib.Core.Path.{_≡_, refl, _∙_}
+use Prim.Native.Nat.{ℕ}
+use mathlib.Core.List.{List}
+use mathlib.Core.Path.{_≡_, ap, _∙_}
 use native.Mathlib.Omega.{arith}
-use lib.ListN.{length}
+use borrow.Author.Needs.{needs}
+use denote.Ref.{now}
+use Rattle.refusals.specs.Call.{resultOf, leftOf}
+use Rattle.watch.specs.Calls.{startCall}
+use Rattle.watch.specs.declared.Started.{Started}
+use Rattle.frozen.proofs.LoopBegins.{stands-first, first-due}
 use Rattle.frozen.proofs.run.Statement.{statement}
 use Rattle.frozen.proofs.run.Tie as tie
 
-abbrev Inv-loop : tie.InvT-loop
-Inv-loop ring₀ buf₀ out₀ next₀ end₀ left₀ ring buf out next end left = (length ring ≡ length ring₀) × (length buf ≡ length buf₀) × (length out ≡ length out₀)
+-- where the book has been opened, and where the first line is made
+abbrev opened : tie.After-head → tie.After-start
+opened c = c .before .before .before .before
 
-abbrev μ-loop : tie.MeasureT-loop
-μ-loop ring₀ buf₀ out₀ next₀ end₀ left₀ ring buf out next end left = left
+abbrev start : tie.After-start → tie.Start
+start c = c .before .before .before .before .before
 
--- where the first line is written: the call that made it
-abbrev first : tie.After-struct-known Inv-loop μ-loop → tie.After-first Inv-loop μ-loop
-first c = c .before .before .before .before .before .before .before
+abbrev made : tie.After-rounds-arg3 → tie.After-head
+made c = c .before .before .before .before .before .before .before .before .before
 
--- where a round's rows are written: its calls, latest first, and where the round and the loop began
-module _ (c : tie.After-struct-known2 Inv-loop μ-loop) where
-  abbrev drained : tie.After-drain Inv-loop μ-loop
-  drained = c .before .before .before .before .before .before .before
+start-requires : tie.Need-start-requires
+start-requires c κs = search needs
 
-  abbrev filled : tie.After-fill Inv-loop μ-loop
-  filled = drained .before .before .before .before .before .before
+head-requires : tie.Need-head-requires
+head-requires c κs = search needs
 
-  abbrev moved : tie.After-make-room Inv-loop μ-loop
-  moved = filled .before .before .before .before .before
+unsent-requires : tie.Need-unsent-requires
+unsent-requires c κs = let h = c .before .before .before in
+    let s = start (opened h) in
+    first-due (now (s .args .out)) (omega (arith, s .pre .2)) (h .head .result) (h .head .last .0) (h .head .ensures)
 
-  abbrev round : tie.In-loop Inv-loop μ-loop
-  round = moved .before .before
+same-length : tie.Need-same-length
+same-length c = search needs
 
-  abbrev loop : tie.At-loop Inv-loop μ-loop
-  loop = round .before
+same-length-2 : tie.Need-same-length-2
+same-length-2 c = search needs
 
-first-requires : tie.Need-first-requires Inv-loop μ-loop
-first-requires c κs = tt
+returns : tie.Need-returns
+returns c = λ e. absurd (let z : _≡_ {A = ℕ} 0 1 = cc in omega arith)
 
-write-requires : tie.Need-write-requires Inv-loop μ-loop
-write-requires c κs = tt
-
-same-length : tie.Need-same-length Inv-loop μ-loop
-same-length c = first (c .before) .first .kept .0
-
-same-length-2 : tie.Need-same-length-2 Inv-loop μ-loop
-same-length-2 c = first (c .before) .first .kept .1 .0
-
-returns : tie.Need-returns Inv-loop μ-loop
-returns c = tt
-
-loop-holds : tie.Need-loop-holds Inv-loop μ-loop
-loop-holds c = (refl, refl, refl)
-
-make-room-requires : tie.Need-make-room-requires Inv-loop μ-loop
-make-room-requires c κs = tt
-
-at-requires : tie.Need-at-requires Inv-loop μ-loop
-at-requires c κs = tt
-
-fill-requires : tie.Need-fill-requires Inv-loop μ-loop
-fill-requires c κs = tt
-
-drain-requires : tie.Need-drain-requires Inv-loop μ-loop
-drain-requires c κs = tt
-
-write-requires-2 : tie.Need-write-requires-2 Inv-loop μ-loop
-write-requires-2 c κs = tt
-
-same-length-3 : tie.Need-same-length-3 Inv-loop μ-loop
-same-length-3 c = let p = c .before in
-    drained p .drain .kept .1 .0 ∙ loop p .loop .inv .0 ∙ first (loop p .before .before) .first .kept .0
-
-same-length-4 : tie.Need-same-length-4 Inv-loop μ-loop
-same-length-4 c = let p = c .before in
-    filled p .fill .kept .0 ∙ moved p .make-room .kept .0 ∙ loop p .loop .inv .1
-
-same-length-5 : tie.Need-same-length-5 Inv-loop μ-loop
-same-length-5 c = let p = c .before in
-    drained p .drain .kept .1 .1 .1 .1 .1 .0 ∙ loop p .loop .inv .2 ∙ first (loop p .before .before) .first .kept .1 .0
-
-returns-2 : tie.Need-returns-2 Inv-loop μ-loop
-returns-2 c = tt
-
-sub-left : tie.Need-sub-left Inv-loop μ-loop
-sub-left c = omega (arith, round (c .before) .loop-test .taken)
-
-loop-less : tie.Need-loop-less Inv-loop μ-loop
-loop-less c = omega (arith, round (c .before) .loop-test .taken)
-
-loop-again : tie.Need-loop-again Inv-loop μ-loop
-loop-again c = let p = c .before in
-    let inv = loop p .loop .inv in (
-      drained p .drain .kept .1 .0 ∙ inv .0,
-      filled p .fill .kept .0 ∙ moved p .make-room .kept .0 ∙ inv .1,
-      drained p .drain .kept .1 .1 .1 .1 .1 .0 ∙ inv .2,
+rounds-requires : tie.Need-rounds-requires
+rounds-requires c κs = let h = made c in
+    let o = opened h in
+    let s = start o in
+    let state = ap (λ (r : Started). r .state) (o .start .ensures .0) ∙ ap (λ (l : List ℕ). resultOf (startCall l) .state) (s .pre .0) in
+    let ring = o .start .ensures .1 ∙ ap (λ (l : List ℕ). leftOf (startCall l)) (s .pre .0) in (
+      (
+        stands-first (record { state = o .start .result .state; from = 0; at = 0; end = 0 }) (o .start .last .0) (now (s .args .buf))
+            (λ i. record { state = state i; from = 0; at = 0; end = 0 }) ring,
+        record { starts = omega arith; order = omega arith; there = omega arith; image = omega arith },
+        omega arith,
+      ),
+      (s .pre .1, omega (arith, h .head .kept .0, s .pre .2)),
     )
 
-same-length-6 : tie.Need-same-length-6 Inv-loop μ-loop
-same-length-6 c = let l = c .before in
-    l .loop .inv .0 ∙ first (l .before .before) .first .kept .0
+same-length-3 : tie.Need-same-length-3
+same-length-3 c = search needs
 
-same-length-7 : tie.Need-same-length-7 Inv-loop μ-loop
-same-length-7 c = c .before .loop .inv .1
+same-length-4 : tie.Need-same-length-4
+same-length-4 c = search needs
 
-same-length-8 : tie.Need-same-length-8 Inv-loop μ-loop
-same-length-8 c = let l = c .before in
-    l .loop .inv .2 ∙ first (l .before .before) .first .kept .1 .0
+same-length-5 : tie.Need-same-length-5
+same-length-5 c = search needs
 
-returns-3 : tie.Need-returns-3 Inv-loop μ-loop
-returns-3 c = tt
+returns-2 : tie.Need-returns-2
+returns-2 c = search needs
 
 pub run-spec : {M : Type 1} → statement M
 run-spec =
     tie.close
     (tie.spec
-    Inv-loop
-    μ-loop
-    first-requires
-    write-requires
+    start-requires
+    head-requires
+    unsent-requires
     same-length
     same-length-2
     returns
-    loop-holds
-    make-room-requires
-    at-requires
-    fill-requires
-    drain-requires
-    write-requires-2
+    rounds-requires
     same-length-3
     same-length-4
     same-length-5
-    returns-2
-    sub-left
-    loop-less
-    loop-again
-    same-length-6
-    same-length-7
-    same-length-8
-    returns-3)
+    returns-2)

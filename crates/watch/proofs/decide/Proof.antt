@@ -1,10 +1,10 @@
--- `watch::decide` meets its contract: each return is one of the cases of a turn.
+-- `watch::decide` meets its contract: each return is one of the cases of an outcome.
 -- Assumes nothing.
 use borrow.Author.Needs.{needs}
 use Prim.Native.Nat.{ℕ, _≤_}
 use mathlib.Core.Bool.{Bool}
 use mathlib.Core.List.{List}
-use mathlib.Core.Path.{_≡_, sym, _∙_}
+use mathlib.Core.Path.{_≡_, refl, sym, _∙_}
 use denote.Ref.{now}
 use lib.ListN.{length}
 use lib.Seq.{length-take-le}
@@ -13,8 +13,8 @@ use Rattle.image.specs.Reading.{numbersOf}
 use Rattle.image.proofs.Promises.{reading-lies}
 use Rattle.watch.specs.declared.State.{State}
 use Rattle.watch.specs.declared.Turn.{Turn}
-use Rattle.watch.specs.Turn.{decidedOf, decidedRing, turnOf, turnRing}
-use Rattle.watch.proofs.Deciding.{none-over, none-yet, short-waits, decides, decided-refused, decided-first, decided-counted}
+use Rattle.watch.specs.Turn.{Outcome, decidedOf, outcomeOf}
+use Rattle.watch.proofs.Deciding.{ComesTo, comes-to, none-over, none-yet, short-waits, decides, decided-refused, decided-first, decided-counted}
 use Rattle.watch.proofs.decide.Statement.{statement}
 use Rattle.watch.proofs.decide.Tie as tie
 
@@ -45,11 +45,11 @@ start c = c .before .before .before
 
 returns : tie.Need-returns
 returns c = let s = start (c .before .before) in
-    none-over (state s) (ring s) (last s) (rest s) (over s) (c .before .if1 .taken) (c .if2 .taken)
+    comes-to (refl, refl) (none-over (state s) (ring s) (last s) (rest s) (over s) (c .before .if1 .taken) (c .if2 .taken))
 
 returns-2 : tie.Need-returns-2
 returns-2 c = let s = start (c .before .before) in
-    none-yet (state s) (ring s) (last s) (rest s) (over s) (c .before .if1 .taken) (c .if2 .left)
+    comes-to (refl, refl) (none-yet (state s) (ring s) (last s) (rest s) (over s) (c .before .if1 .taken) (c .if2 .left))
 
 header-requires : tie.Need-header-requires
 header-requires c κs = search needs
@@ -61,8 +61,9 @@ returns-3 : tie.Need-returns-3
 returns-3 c = let asked = c .before in
     let read = asked .before in
     let s = start (read .before .before) in
-    short-waits (state s) (ring s) (last s) (rest s) (over s) (read .before .if1 .left) (read .header .ensures)
-    (sym (asked .short-yet .ensures) ∙ c .if3 .taken)
+    comes-to (refl, refl)
+    (short-waits (state s) (ring s) (last s) (rest s) (over s) (read .before .if1 .left) (read .header .ensures)
+    (sym (asked .short-yet .ensures) ∙ c .if3 .taken))
 
 -- once the turn does not wait
 module _ (c : tie.After-struct-known) where
@@ -75,19 +76,20 @@ module _ (c : tie.After-struct-known) where
   abbrev here : tie.Start
   here = start (read .before .before)
 
-  comes-to : {turn : Turn} {bytes : List ℕ}
-      → (turn ≡ decidedOf (state here) (ring here) (last here) (rest here)) × (bytes ≡ decidedRing (state here) (ring here) (last here) (rest here))
-      → (turn ≡ turnOf (state here) (ring here) (last here) (rest here) (over here))
-      × (bytes ≡ turnRing (state here) (ring here) (last here) (rest here) (over here))
-  comes-to d =
-      let t = decides (state here) (ring here) (last here) (rest here) (over here) (read .before .if1 .left) (read .header .ensures)
-      (sym (asked .short-yet .ensures) ∙ c .before .if3 .left) in
-      (d .0 ∙ t .0, d .1 ∙ t .1)
+  abbrev decided : Outcome
+  decided = decidedOf (state here) (ring here) (last here) (rest here)
+
+  told : {turn : Turn} {bytes : List ℕ} → ComesTo turn bytes decided
+      → ComesTo turn bytes (outcomeOf (state here) (ring here) (last here) (rest here) (over here))
+  told came =
+      comes-to came
+      (decides (state here) (ring here) (last here) (rest here) (over here) (read .before .if1 .left) (read .header .ensures)
+      (sym (asked .short-yet .ensures) ∙ c .before .if3 .left))
 
 returns-4 : tie.Need-returns-4
 returns-4 c = let p = c .before in
     let s = here p in
-    comes-to p (decided-refused (state s) (ring s) (last s) (rest s) (read p .header .ensures) (c .if4 .taken))
+    told p (comes-to (refl, refl) (decided-refused (state s) (ring s) (last s) (rest s) (read p .header .ensures) (c .if4 .taken)))
 
 shown-requires : tie.Need-shown-requires
 shown-requires c κs = search needs
@@ -100,8 +102,9 @@ returns-5 c = let first = c .before .before in
     let taken = first .before .before in
     let p = taken .before in
     let s = here p in
-    let d = decided-first (state s) (ring s) (last s) (rest s) (read p .header .ensures) (taken .if4 .left) (first .if5 .taken) in
-    comes-to p (c .shown .ensures ∙ d .0, d .1)
+    told p
+    (comes-to (c .shown .ensures, refl)
+    (decided-first (state s) (ring s) (last s) (rest s) (read p .header .ensures) (taken .if4 .left) (first .if5 .taken)))
 
 -- where the frame is not the first
 abbrev taken : tie.Else5 → tie.Else4
@@ -122,8 +125,9 @@ returns-6 c = let counted = c .before .before in
     let later = counted .before .before .before in
     let p = taken later .before in
     let s = here p in
-    let d = decided-counted (state s) (ring s) (last s) (rest s) (read p .header .ensures) (taken later .if4 .left) (later .if5 .left) in
-    comes-to p (counted .counted .ensures .0 ∙ d .0, counted .counted .ensures .1 ∙ d .1)
+    told p
+    (comes-to (counted .counted .ensures)
+    (decided-counted (state s) (ring s) (last s) (rest s) (read p .header .ensures) (taken later .if4 .left) (later .if5 .left)))
 
 pub decide-spec : {M : Type 1} → statement M
 decide-spec =

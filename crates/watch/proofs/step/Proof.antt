@@ -2,6 +2,7 @@
 -- Assumes nothing.
 use borrow.Author.Needs.{needs}
 use native.Mathlib.Omega.{arith}
+use mathlib.Core.Path.{sym}
 use denote.Ref.{now}
 use Rattle.watch.proofs.Stepping.{step-refused, step-taken}
 use Rattle.watch.proofs.step.Statement.{statement}
@@ -13,7 +14,8 @@ start c = c .before .before .before .before
 
 returns : tie.Need-returns
 returns c = let a = start (c .before) .args in
-    step-refused (a .state) (now (a .ring)) (now (a .last)) (now (a .rest)) (a .over) (now (a .out)) (omega arith)
+    let r = step-refused (a .state) (now (a .ring)) (now (a .last)) (now (a .rest)) (a .over) (now (a .out)) (omega arith) in
+    (sym (r .0), sym (r .1))
 
 decide-requires : tie.Need-decide-requires
 decide-requires c κs = search needs

@@ -1,12 +1,13 @@
 -- `rows::put::refused` meets its contract: the fields stand one behind the other.
 -- Assumes nothing.
 use borrow.Author.Needs.{needs}
-use Prim.Native.Nat.{ℕ, _≤_}
-use mathlib.Core.List.{List, [], _∷_, _++_}
+use Prim.Native.Nat.{_≤_}
+use mathlib.Core.List.{_++_}
 use native.Mathlib.Omega.{arith}
 use lib.ListN.{length}
 use Rattle.decimals.specs.Decimal.{decimal}
-use Rattle.rows.specs.Row.{comma, carriageReturn, lineFeed, fieldText, refusedText}
+use Rattle.rows.specs.Ascii.{ascii}
+use Rattle.rows.specs.Row.{lineEnd, fieldText, refusedText}
 use Rattle.decimals.proofs.Digits.{decimal-20}
 use Rattle.rows.proofs.Writing.{appended-then}
 use Rattle.rows.proofs.put.refused.Statement.{statement}
@@ -69,8 +70,8 @@ returns c = let commas = c .before .before in
     let n = number-of commas in
     let word = word-of n in
     let a = start word .args in
-    let refused : List ℕ = 114 ∷ 101 ∷ 102 ∷ 117 ∷ 115 ∷ 101 ∷ 100 ∷ 32 ∷ [] in
-    let empty : List ℕ = comma ∷ comma ∷ comma ∷ carriageReturn ∷ lineFeed ∷ [] in
+    let refused = ascii "refused " in
+    let empty = ascii ",,," ++ lineEnd in
     appended-then (fieldText (a .frame)) (refused ++ (decimal (a .refusal) ++ empty)) (field word .field .ensures .0)
     (appended-then refused (decimal (a .refusal) ++ empty) (word .text .ensures)
     (appended-then (decimal (a .refusal)) empty (n .number .ensures) (commas .text2 .ensures)))

@@ -1,0 +1,11 @@
+pub mod Parts
+pub mod DeskLaws
+pub mod RowsRoom
+pub mod TurnsOfWatch
+pub mod OneTurn
+pub mod RoundLaws
+pub mod TurnByTurn
+pub mod TurnsRun
+pub mod RoundsRun
+pub mod LoopBegins
+pub mod LoopRuns

@@ -1,0 +1,3 @@
+pub mod Desk
+pub mod Round
+pub mod Running
