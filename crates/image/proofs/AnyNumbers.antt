@@ -15,6 +15,7 @@ use Rattle.image.specs.Bytes.{white, lineFeed}
 use Rattle.image.specs.Tests.{Test, any, anyNumbers}
 use Rattle.image.specs.Seen.{Seen}
 use Rattle.image.specs.Step.{found}
+use Rattle.image.proofs.SeenLists.{seenAs}
 use Rattle.image.proofs.KindsOfBytes.{one-is-digit, one-not-white, line-feed-white}
 use Rattle.image.proofs.ByteByByte.{Place, inSign, inGap, inDigits, Onward, goes, fails, ends, entering, onward, carried, walk}
 use Rattle.image.proofs.WalkStands.{furtherOn, after}
@@ -76,10 +77,10 @@ entering-well : (numbers : List ℕ) (tests : List Test) → GoesOrEnds (enterin
 entering-well numbers [] = ending numbers refl
 entering-well numbers (test ∷ tests) = going (inGap numbers test tests) refl
 
-never-fails : {A : Type 0} {place : Place} {refusal : ℕ} → goes place ≡ fails refusal → A
+pub never-fails : {A : Type 0} {place : Place} {refusal : ℕ} → goes place ≡ fails refusal → A
 never-fails e = let z : _≡_ {A = ℕ} 0 1 = cc in absurd (omega arith)
 
-never-wrong : {A : Type 0} → _≡_ {A = Onward} (fails wrongByte) (fails numberOutOfRange) → A
+pub never-wrong : {A : Type 0} → _≡_ {A = Onward} (fails wrongByte) (fails numberOutOfRange) → A
 never-wrong e = let same : _≡_ {A = ℕ} wrongByte numberOutOfRange = cc in absurd (omega arith)
 
 never-entering : {A : Type 0} (numbers : List ℕ) (tests : List Test) → entering numbers tests ≡ fails numberOutOfRange → A
@@ -139,12 +140,8 @@ abbrev ones : List Test → List Seen
 ones [] = []
 ones (test ∷ tests) = aByte (digitByte 1) ∷ aByte lineFeed ∷ ones tests
 
-abbrev signsSeen : List ℕ → List Seen
-signsSeen [] = []
-signsSeen (sign ∷ signs) = aByte sign ∷ signsSeen signs
-
 abbrev pub completing : Place → List Seen
-completing (inSign signs tests) = signsSeen signs ++ (aByte lineFeed ∷ ones tests)
+completing (inSign signs tests) = seenAs signs ++ (aByte lineFeed ∷ ones tests)
 completing (inGap numbers test tests) = ones (test ∷ tests)
 completing (inDigits numbers value test tests) = aByte lineFeed ∷ ones tests
 

@@ -16,6 +16,7 @@ use Rattle.image.specs.Seen.{Seen, bytesOf}
 use Rattle.image.specs.Step.{Step, stopped, found}
 use Rattle.image.specs.Format.{Field, Written, bytesIn, numbersIn, AllPass}
 use Rattle.image.proofs.SeenLists.{bytes-append, reachFrom, reach-append}
+use Rattle.image.proofs.StepsApart.{stopped-not-found, stopped-apart}
 use Rattle.image.proofs.ByteByByte.{inSign, inGap, goes, fails, entering, carried, walk}
 use Rattle.image.proofs.NumberForms.{NumberAt, judgement, number-walk, NumberStory, whole, broken, short, number-story}
 
@@ -39,9 +40,6 @@ pub record Formed (signs : List ℕ) (tests : List Test) (values : List ℕ) (l 
 -- the same from a white byte on, with no sign
 abbrev Body : List Test → List ℕ → Seen → List Seen → ℕ → List Seen → Type 0
 Body tests values seen l used rest = Formed [] tests values (seen ∷ l) used rest
-
-never : {A : Type 0} {k : ℕ} {v : List ℕ} {u : ℕ} {r : List Seen} → stopped k ≡ found v u r → A
-never e = let z : _≡_ {A = ℕ} 0 1 = cc in absurd (omega arith)
 
 joined : {A : Type 0} (a b c d : List A) → a ++ (b ++ (c ++ d)) ≡ (a ++ (b ++ c)) ++ d
 joined a b c d = sym (append-assoc a (b ++ c) d ∙ ap (λ (m : List _). a ++ m) (append-assoc b c d))
@@ -118,13 +116,13 @@ body-found end (test ∷ tests) numbers seen l {values} {used} {rest} w e =
           body = number-more test tests (f .later) seen l used rest w n passing (f .body);
           all-are = ap (λ (x : ℕ). numbers ++ (x ∷ f .later)) is ∙ sym (append-assoc numbers (v ∷ []) (f .later)) ∙ f .all-are;
         }
-    judged n false passing v is again e = never e
+    judged n false passing v is again e = stopped-not-found e
 
     by : ((n : NumberAt l) (v : ℕ) → walkBehind end (numbers ++ (v ∷ [])) tests (n .last) (n .rest) ≡ found values used rest
         → FoundBody tests (numbers ++ (v ∷ [])) values (n .last) (n .rest) used rest)
         → NumberStory end l → FoundBody (test ∷ tests) numbers values seen l used rest
-    by again (broken stops) = never (sym (stops numbers test tests) ∙ e)
-    by again (short stops) = never (sym (stops numbers test tests) ∙ e)
+    by again (broken stops) = stopped-not-found (sym (stops numbers test tests) ∙ e)
+    by again (short stops) = stopped-not-found (sym (stops numbers test tests) ∙ e)
     by again (whole n) =
         let v = valueOf 0 (bytesOf (n .digits)) in
         judged n (test v) refl v refl (again n v) (sym (judged-at end numbers test tests l n) ∙ e)
@@ -143,12 +141,9 @@ pub record OverFormed (signs : List ℕ) (tests : List Test) (l : List Seen) : T
 abbrev OverBody : List Test → Seen → List Seen → Type 0
 OverBody tests seen l = OverFormed [] tests (seen ∷ l)
 
-never-both : {A : Type 0} (a b : ℕ) → (a ≡ b → ⊥) → _≡_ {A = Step (List ℕ)} (stopped a) (stopped b) → A
-never-both a b differ e = let same : a ≡ b = cc in absurd (differ same)
-
 body-over : (end : ℕ) → (end ≡ numberOutOfRange → ⊥) → (tests : List Test) (numbers : List ℕ) (seen : Seen) (l : List Seen)
     → white (seen .byte) ≡ true → walkBehind end numbers tests seen l ≡ stopped numberOutOfRange → OverBody tests seen l
-body-over end other [] numbers seen l w e = never (sym e)
+body-over end other [] numbers seen l w e = stopped-not-found (sym e)
 body-over end other (test ∷ tests) numbers seen l w e =
     by (λ n v e. body-over end other tests (numbers ++ (v ∷ [])) (n .last) (n .rest) (n .ended) e) (number-story end l)
   where
@@ -183,8 +178,8 @@ body-over end other (test ∷ tests) numbers seen l w e =
 
     by : ((n : NumberAt l) (v : ℕ) → walkBehind end (numbers ++ (v ∷ [])) tests (n .last) (n .rest) ≡ stopped numberOutOfRange → OverBody tests (n .last) (n .rest))
         → NumberStory end l → OverBody (test ∷ tests) seen l
-    by again (broken stops) = never-both wrongByte numberOutOfRange (λ same. omega arith) (sym (stops numbers test tests) ∙ e)
-    by again (short stops) = never-both end numberOutOfRange other (sym (stops numbers test tests) ∙ e)
+    by again (broken stops) = stopped-apart wrongByte numberOutOfRange (λ same. omega arith) (sym (stops numbers test tests) ∙ e)
+    by again (short stops) = stopped-apart end numberOutOfRange other (sym (stops numbers test tests) ∙ e)
     by again (whole n) =
         let v = valueOf 0 (bytesOf (n .digits)) in
         judged n (test v) refl v (again n v) (sym (judged-at end numbers test tests l n) ∙ e)
@@ -208,7 +203,7 @@ sign-more {signs} sign seen same f = record {
 pub walk-found : (end : ℕ) (signs : List ℕ) (tests : List Test) (l : List Seen) {values : List ℕ} {used : ℕ} {rest : List Seen}
     → walk end (inSign signs tests) l ≡ found values used rest → Formed signs tests values l used rest
 unfolding walk
-walk-found end signs tests [] e = never e
+walk-found end signs tests [] e = stopped-not-found e
 walk-found end [] tests (seen ∷ l) {values} {used} {rest} e = by (white (seen .byte)) refl e
   where
     by : (w : Bool) → white (seen .byte) ≡ w
@@ -217,7 +212,7 @@ walk-found end [] tests (seen ∷ l) {values} {used} {rest} e = by (white (seen 
     by true w e =
         let f = body-found end tests [] seen l w e in
         rw (← f .all-are) (f .body)
-    by false w e = never e
+    by false w e = stopped-not-found e
 walk-found end (sign ∷ signs) tests (seen ∷ l) {values} {used} {rest} e = by (eqb sign (seen .byte)) refl (walk-found end signs tests l) e
   where
     by : (b : Bool) → eqb sign (seen .byte) ≡ b
@@ -225,19 +220,19 @@ walk-found end (sign ∷ signs) tests (seen ∷ l) {values} {used} {rest} e = by
         → carried seen l (λ next. walk end next l) (cond b (goes (inSign signs tests)) (fails wrongByte)) ≡ found values used rest
         → Formed (sign ∷ signs) tests values (seen ∷ l) used rest
     by true b again e = sign-more sign seen (eqb-true sign (seen .byte) b) (again e)
-    by false b again e = never e
+    by false b again e = stopped-not-found e
 
 pub walk-over : (end : ℕ) → (end ≡ numberOutOfRange → ⊥) → (signs : List ℕ) (tests : List Test) (l : List Seen)
     → walk end (inSign signs tests) l ≡ stopped numberOutOfRange → OverFormed signs tests l
 unfolding walk
-walk-over end other signs tests [] e = never-both end numberOutOfRange other e
+walk-over end other signs tests [] e = stopped-apart end numberOutOfRange other e
 walk-over end other [] tests (seen ∷ l) e = by (white (seen .byte)) refl e
   where
     by : (w : Bool) → white (seen .byte) ≡ w
         → carried seen l (λ next. walk end next l) (cond w (entering [] tests) (fails wrongByte)) ≡ stopped numberOutOfRange
         → OverFormed [] tests (seen ∷ l)
     by true w e = body-over end other tests [] seen l w e
-    by false w e = never-both wrongByte numberOutOfRange (λ same. omega arith) e
+    by false w e = stopped-apart wrongByte numberOutOfRange (λ same. omega arith) e
 walk-over end other (sign ∷ signs) tests (seen ∷ l) e = by (eqb sign (seen .byte)) refl (walk-over end other signs tests l) e
   where
     by : (b : Bool) → eqb sign (seen .byte) ≡ b → (walk end (inSign signs tests) l ≡ stopped numberOutOfRange → OverFormed signs tests l)
@@ -255,4 +250,4 @@ walk-over end other (sign ∷ signs) tests (seen ∷ l) e = by (eqb sign (seen .
           rest = o .rest;
           formed = sign-more sign seen (eqb-true sign (seen .byte) b) (o .formed);
         }
-    by false b again e = never-both wrongByte numberOutOfRange (λ same. omega arith) e
+    by false b again e = stopped-apart wrongByte numberOutOfRange (λ same. omega arith) e

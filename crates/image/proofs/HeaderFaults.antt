@@ -18,25 +18,14 @@ use Rattle.image.specs.Step.{Step, stopped, found}
 use Rattle.image.specs.Fields.{headerFields}
 use Rattle.image.specs.Kinds.{Kind}
 use Rattle.image.specs.FirstFault.{Complete, Begun, Over, NothingOver, OutOfRange, WrongByte, RunsOut}
-use Rattle.image.proofs.SeenLists.{bytes-append, parted}
+use Rattle.image.proofs.SeenLists.{bytes-append, seenAs, bytes-seen, parted}
+use Rattle.image.proofs.StepsApart.{stopped-not-found, stopped-apart}
 use Rattle.image.proofs.ByteByByte.{Place, inSign, Onward, goes, fails, ends, onward, carried, walk, header-walks}
 use Rattle.image.proofs.BodyForms.{walk-found, walk-over}
 use Rattle.image.proofs.BodyRead.{header-read, header-over-read}
 use Rattle.image.proofs.HeaderExact.{header-of, onRest, walk-longer}
 use Rattle.image.proofs.WalkStands.{after, walk-on, walk-fails, walk-ends, after-one, FailsAt, fails-at, onward-fails, fails-numbered}
-use Rattle.image.proofs.AnyNumbers.{loosened, loosenedOn, loosened-twice, onward-loosened, GoesOrEnds, going, ending, out-of-range-loosened, after-loosened, completing, completing-some, completed}
-
--- bytes as they are seen anywhere
-abbrev seenAs : List ℕ → List Seen
-seenAs [] = []
-seenAs (byte ∷ later) = record { byte = byte; upto = 0 } ∷ seenAs later
-
-bytes-seen : (bytes : List ℕ) → bytesOf (seenAs bytes) ≡ bytes
-bytes-seen [] = refl
-bytes-seen (byte ∷ later) = ap (λ (l : List ℕ). byte ∷ l) (bytes-seen later)
-
-unlike : {A : Type 0} {k : ℕ} {v : List ℕ} {u : ℕ} {r : List Seen} → stopped k ≡ found v u r → A
-unlike e = let z : _≡_ {A = ℕ} 0 1 = cc in absurd (omega arith)
+use Rattle.image.proofs.AnyNumbers.{never-fails, never-wrong, loosened, loosenedOn, loosened-twice, onward-loosened, GoesOrEnds, going, ending, out-of-range-loosened, after-loosened, completing, completing-some, completed}
 
 module _ (kind : Kind) where
   -- where every header begins, with the kind's tests and whatever its numbers are
@@ -63,7 +52,7 @@ module _ (kind : Kind) where
   goes-begun : (l : List Seen) {place : Place} → after loose l ≡ goes place → Begun kind (bytesOf l)
   goes-begun l {place} e =
       let same : after loose l ≡ goes (loosened place) =
-      ap (λ (p : Place). after p l) (sym (loosened-twice beginning)) ∙ after-loosened loose l (λ f. never (sym e ∙ f)) ∙ ap loosenedOn e in
+      ap (λ (p : Place). after p l) (sym (loosened-twice beginning)) ∙ after-loosened loose l (λ f. never-fails (sym e ∙ f)) ∙ ap loosenedOn e in
       let more = completing place in
       let c = completed endsTooEarly place in
       let finds : walk endsTooEarly loose (l ++ more) ≡ found (c .numbers) (c .used) [] = walk-on endsTooEarly loose l more same ∙ c .finds in
@@ -73,9 +62,6 @@ module _ (kind : Kind) where
         completes = rw (← bytes-append l more) (walks-complete endsTooEarly (l ++ more) finds);
       }
     where
-      never : goes place ≡ fails numberOutOfRange → ⊥
-      never e = let z : _≡_ {A = ℕ} 0 1 = cc in absurd (omega arith)
-
       bytes-length : (m : List Seen) → length (bytesOf m) ≡ length m
       bytes-length [] = refl
       bytes-length (seen ∷ m) = ap suc (bytes-length m)
@@ -101,12 +87,12 @@ module _ (kind : Kind) where
 
       waits : (k : ℕ) → walk endsTooEarly loose l ≡ stopped k → (same : Bool) → eqb k endsTooEarly ≡ same → _≡_ {A = Step (List ℕ)} (stopped k) (stopped endsTooEarly)
       waits k is true e = ap stopped (eqb-true k endsTooEarly e)
-      waits k is false e = unlike (longer (stopped k) is (λ f. eqb-false k endsTooEarly e (cc)) .2)
+      waits k is false e = stopped-not-found (longer (stopped k) is (λ f. eqb-false k endsTooEarly e (cc)) .2)
 
       by : (step : Step (List ℕ)) → walk endsTooEarly loose l ≡ step → step ≡ stopped endsTooEarly
       by (stopped k) is = waits k is (eqb k endsTooEarly) refl
       by (found numbers used rest) is =
-          let w = longer (found numbers used rest) is (λ e. unlike (sym e)) in
+          let w = longer (found numbers used rest) is (λ e. stopped-not-found (sym e)) in
           absurd (nothing-more rest (b .more) (b .not-none) (rest-of (w .2)))
         where
           rest-of : {n m : List ℕ} {u v : ℕ} {a c : List Seen} → found n u a ≡ found m v c → a ≡ c
@@ -145,10 +131,7 @@ module _ (kind : Kind) where
 
   -- the bytes run out exactly where the walk still stands somewhere: so far a header can come, and no number is out of range
   goes-loose : (l : List Seen) {place : Place} → after beginning l ≡ goes place → after loose l ≡ goes (loosened place)
-  goes-loose l {place} e = after-loosened beginning l (λ f. unlike-fails (sym e ∙ f)) ∙ ap loosenedOn e
-    where
-      unlike-fails : goes place ≡ fails numberOutOfRange → ⊥
-      unlike-fails e = let z : _≡_ {A = ℕ} 0 1 = cc in absurd (omega arith)
+  goes-loose l {place} e = after-loosened beginning l (λ f. never-fails (sym e ∙ f)) ∙ ap loosenedOn e
 
   waits-there : (l : List Seen) {place : Place} → after beginning l ≡ goes place → walk endsTooEarly beginning l ≡ stopped endsTooEarly
   unfolding walk
@@ -156,28 +139,20 @@ module _ (kind : Kind) where
 
   goes-nothing-over : (l : List Seen) {place : Place} → after beginning l ≡ goes place → NothingOver kind (bytesOf l)
   goes-nothing-over l e first rest split over =
-      never-same (sym (waits-there l e) ∙ over-stops endsTooEarly l record { first = first; rest = rest; split = split; over = over })
-    where
-      never-same : _≡_ {A = Step (List ℕ)} (stopped endsTooEarly) (stopped numberOutOfRange) → ⊥
-      never-same e = let same : _≡_ {A = ℕ} endsTooEarly numberOutOfRange = cc in omega arith
+      stopped-apart endsTooEarly numberOutOfRange (λ same. omega arith)
+      (sym (waits-there l e) ∙ over-stops endsTooEarly l record { first = first; rest = rest; split = split; over = over })
 
   goes-runs-out : (l : List Seen) {place : Place} → after beginning l ≡ goes place → RunsOut kind (bytesOf l)
   goes-runs-out l e = record { begun = goes-begun l (goes-loose l e); nothing-over = goes-nothing-over l e }
 
-  unlike-over : _≡_ {A = Onward} (fails wrongByte) (fails numberOutOfRange) → ⊥
-  unlike-over e = let same : _≡_ {A = ℕ} wrongByte numberOutOfRange = cc in omega arith
-
   loose-fails : (l : List Seen) → after beginning l ≡ fails wrongByte → walk endsTooEarly loose l ≡ stopped wrongByte
   loose-fails l is =
-      let loosely : after loose l ≡ fails wrongByte = after-loosened beginning l (λ f. unlike-over (sym is ∙ f)) ∙ ap loosenedOn is in
+      let loosely : after loose l ≡ fails wrongByte = after-loosened beginning l (λ f. never-wrong (sym is ∙ f)) ∙ ap loosenedOn is in
       ap (walk endsTooEarly loose) (sym (append-nil l)) ∙ walk-fails endsTooEarly loose l [] loosely
 
   record Stands (l : List Seen) : Type 0 where
     place : Place
     comes : after beginning l ≡ goes place
-
-  never-waits : (k : ℕ) → (k ≡ endsTooEarly → ⊥) → _≡_ {A = Step (List ℕ)} (stopped k) (stopped endsTooEarly) → ⊥
-  never-waits k differ e = let same : k ≡ endsTooEarly = cc in differ same
 
   runs-out-stands : (l : List Seen) → RunsOut kind (bytesOf l) → Stands l
   runs-out-stands l r = by (after beginning l) refl
@@ -191,7 +166,7 @@ module _ (kind : Kind) where
           absurd (r .nothing-over (o .first) (o .rest) (o .split) (o .over))
 
       wrong : after beginning l ≡ fails wrongByte → Stands l
-      wrong is = absurd (never-waits wrongByte (λ e. omega arith) (sym (loose-fails l is) ∙ waits))
+      wrong is = stopped-apart wrongByte endsTooEarly (λ e. omega arith) (sym (loose-fails l is) ∙ waits)
 
       failing-with : (k : ℕ) → after beginning l ≡ fails k → (k ≡ wrongByte) ⊎ (k ≡ numberOutOfRange) → Stands l
       failing-with k is (inl e) = wrong (is ∙ ap fails e)
@@ -202,7 +177,7 @@ module _ (kind : Kind) where
       by (fails k) is = failing-with k is (fails-numbered beginning l is)
       by (ends numbers) is =
           let loosely : after loose l ≡ ends numbers = after-loosened beginning l (λ f. unlike-ends (sym is ∙ f)) ∙ ap loosenedOn is in
-          unlike (sym waits ∙ walk-ends endsTooEarly loose l loosely .2)
+          stopped-not-found (sym waits ∙ walk-ends endsTooEarly loose l loosely .2)
         where
           unlike-ends : ends numbers ≡ fails numberOutOfRange → ⊥
           unlike-ends e = let z : _≡_ {A = ℕ} 0 1 = cc in absurd (omega arith)
@@ -220,8 +195,8 @@ module _ (kind : Kind) where
         split = ap bytesOf (f .split) ∙ bytes-append (f .first) (f .seen ∷ f .rest);
         begun = goes-begun (f .first) (goes-loose (f .first) (f .comes));
         nothing-over = goes-nothing-over (f .first) (f .comes);
-        not-begun = λ b. never-waits wrongByte (λ e. omega arith) (sym stops ∙ begun-waits (f .first ++ (f .seen ∷ [])) (rw bytes-are b));
-        not-complete = λ c. unlike (sym stops ∙ complete-walks endsTooEarly (f .first ++ (f .seen ∷ [])) (rw bytes-are c) .2);
+        not-begun = λ b. stopped-apart wrongByte endsTooEarly (λ e. omega arith) (sym stops ∙ begun-waits (f .first ++ (f .seen ∷ [])) (rw bytes-are b));
+        not-complete = λ c. stopped-not-found (sym stops ∙ complete-walks endsTooEarly (f .first ++ (f .seen ∷ [])) (rw bytes-are c) .2);
       }
 
   -- one byte more of a header whatever its numbers: it has begun with it, or is whole
@@ -306,7 +281,7 @@ module _ (kind : Kind) where
           at-end (refusal-of (sym stops ∙ ap (walk end beginning) (sym (append-nil l)) ∙ walk-on end beginning l [] is)) (goes-runs-out l is)
       by (fails k) is =
           failing-with k is (refusal-of (sym stops ∙ ap (walk end beginning) (sym (append-nil l)) ∙ walk-fails end beginning l [] is)) (fails-numbered beginning l is)
-      by (ends numbers) is = unlike (sym stops ∙ walk-ends end beginning l is .2)
+      by (ends numbers) is = stopped-not-found (sym stops ∙ walk-ends end beginning l is .2)
 
   pub fault-stops : (end : ℕ) (l : List Seen) {refusal : ℕ} → HeaderFault end (bytesOf l) refusal
       → headerFields end (kind .sign) (kind .tests) l ≡ stopped refusal

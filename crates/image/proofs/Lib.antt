@@ -10,6 +10,7 @@ pub mod HeaderExact
 pub mod ByteByByte
 pub mod NumberForms
 pub mod SeenLists
+pub mod StepsApart
 pub mod BodyForms
 pub mod BodyRead
 pub mod WalkStands

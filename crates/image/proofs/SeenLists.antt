@@ -10,6 +10,15 @@ pub bytes-append : (a b : List Seen) → bytesOf (a ++ b) ≡ bytesOf a ++ bytes
 bytes-append [] b = refl
 bytes-append (seen ∷ a) b = ap (λ (l : List ℕ). seen .byte ∷ l) (bytes-append a b)
 
+-- bytes as they are seen anywhere
+abbrev pub seenAs : List ℕ → List Seen
+seenAs [] = []
+seenAs (byte ∷ later) = record { byte = byte; upto = 0 } ∷ seenAs later
+
+pub bytes-seen : (bytes : List ℕ) → bytesOf (seenAs bytes) ≡ bytes
+bytes-seen [] = refl
+bytes-seen (byte ∷ later) = ap (λ (l : List ℕ). byte ∷ l) (bytes-seen later)
+
 -- a list whose bytes are put together is put together
 pub record Parted (l : List Seen) (a b : List ℕ) : Type 0 where
   pub first : List Seen
