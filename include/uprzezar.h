@@ -5,18 +5,20 @@
  * and keeps nothing between calls.
  *
  * What you must keep:
- *   - a pointer and the length behind it name bytes that are yours to read for the whole call (and to write, where the pointer is not
- *     const); the pointer is not null, not even where the length is 0;
+ *   - a pointer and the length behind it name bytes, or counts of eight bytes each, that are yours to read for the whole call (and to
+ *     write, where the pointer is not const); the pointer is not null, not even where the length is 0, and is aligned as its type asks;
  *   - while a call runs, nobody else writes those bytes, and bytes lent for writing overlap no others that are lent to that call.
  *
  * What you may leave to us: everything else. Any number, any record, any ring bytes, any image and any length get an answer, and every
  * answer is proved to be the one that the library's definitions lay down (docs/SCOPE.md has them in words). A refusal comes as a number
- * above 0; then the other numbers of the answer are 0, the record is handed back as it came (opening hands back zeros), and no lent byte
- * has changed. Where several refusals apply, the first in the order given at the function is the one.
+ * above 0; then the other numbers of the answer are 0 (but for the place that comes with 7 of uprzezar_run), the record is handed back as
+ * it came (opening hands back zeros), and no lent byte has changed. Where several refusals apply, the first in the order given at the
+ * function is the one.
  *
  * A book from a good start is one that uprzezar_open opened without a refusal; each call since has got the latest record, and the
  * ring as the last call left it, changed by nothing else (no call of the ring alone, no second book in it).
- * What is said below of true totals, and of what a window truly holds, holds for such a book, over the items that uprzezar_add accepted.
+ * What is said below of true totals, and of what a window truly holds, holds for such a book, over the items that uprzezar_add and
+ * uprzezar_run accepted.
  * Any other record, or ring, still gets the one answer that is laid down for it; only, that answer says nothing of the items.
  */
 #ifndef UPRZEZAR_H
@@ -38,7 +40,7 @@ enum {
     UPRZEZAR_RING_TOO_SHORT = 4,   /* the ring has too few bytes */
     UPRZEZAR_WINDOW_TOO_LONG = 5,  /* the window is longer than what is kept */
     UPRZEZAR_ZERO_ASKED = 6,       /* the amount is 0, or the window of a verdict is */
-    UPRZEZAR_ITEM_TOO_LARGE = 7,   /* the item is above the bound */
+    UPRZEZAR_ITEM_TOO_LARGE = 7,   /* the item, or a count of a run, is above the bound */
     UPRZEZAR_NO_BOOK = 8,          /* the record is none that a book can have */
     UPRZEZAR_NOT_REACHED = 9,      /* no window that is kept reaches the amount */
     UPRZEZAR_RING_CALL = 10,       /* the ring's own calls: the width is not 1 to 16, the slots are not 1 to 4,096, there is no such slot,
@@ -88,6 +90,13 @@ typedef struct {
     uint8_t refusal;
     uprzezar_book book;
 } uprzezar_updated;
+
+/* With refusal 7 `place` is that of the first count above the bound, from 1; otherwise it is 0. */
+typedef struct {
+    uint8_t refusal;
+    uint64_t place;
+    uprzezar_book book;
+} uprzezar_ran;
 
 typedef struct {
     uint8_t refusal;
@@ -146,6 +155,8 @@ UPRZEZAR_ASSERT(offsetof(uprzezar_book, length) == 8 && offsetof(uprzezar_book, 
 UPRZEZAR_ASSERT(offsetof(uprzezar_book, carry) == 24 && offsetof(uprzezar_book, phase) == 32, "book");
 UPRZEZAR_ASSERT(offsetof(uprzezar_book, kept) == 40 && offsetof(uprzezar_book, head) == 48, "book");
 UPRZEZAR_ASSERT(sizeof(uprzezar_updated) == 64 && offsetof(uprzezar_updated, book) == 8, "updated");
+UPRZEZAR_ASSERT(sizeof(uprzezar_ran) == 72 && offsetof(uprzezar_ran, place) == 8, "ran");
+UPRZEZAR_ASSERT(offsetof(uprzezar_ran, book) == 16, "ran");
 UPRZEZAR_ASSERT(sizeof(uprzezar_figure) == 16 && offsetof(uprzezar_figure, figure) == 8, "figure");
 UPRZEZAR_ASSERT(sizeof(uprzezar_window) == 16 && offsetof(uprzezar_window, window) == 8, "window");
 UPRZEZAR_ASSERT(sizeof(uprzezar_ruled) == 16 && offsetof(uprzezar_ruled, verdict) == 1, "ruled");
@@ -173,6 +184,11 @@ uprzezar_updated uprzezar_open(uint64_t bound, uint64_t length, uint64_t toleran
 
 /* Adds one item. Refusals: 8, 4, 7. */
 uprzezar_updated uprzezar_add(uprzezar_book book, uint8_t *ring, size_t ring_bytes, uint64_t item);
+
+/* Adds a run of counts, `how_many` of them: record and ring come out as by one uprzezar_add for each count in turn. No count is taken before
+   every one was looked at: all are taken or none. With refusal 7 `place` is that of the first count above the bound, from 1; otherwise it is
+   0. A run of no counts leaves all as it is; its pointer too is not null. The counts and the ring do not overlap. Refusals: 8, 4, 7. */
+uprzezar_ran uprzezar_run(uprzezar_book book, uint8_t *ring, size_t ring_bytes, const uint64_t *counts, size_t how_many);
 
 /* The figure for the last `window` items: for a book from a good start (the latest record, a ring changed by nothing else) never above
    their true total, and short of it by less than the tolerance. A window of 0 gives 0. Refusals: 8, 4, 5. */

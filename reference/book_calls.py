@@ -128,15 +128,20 @@ def last_slots(rng, count):
         yield call("add", record, ring, L)
 
 
-def no_books():
-    """Case A's record with one number changed, at an edge or as large as it can be; the first of all is a book."""
-    base, ring = Record(5, 6, 10, 13, 1, 6, 0), b"\x40"
+def changed_records():
+    """Case A's record with one number changed, at an edge or as large as it can be, and with all of them so; the first of all is a book."""
+    base = Record(5, 6, 10, 13, 1, 6, 0)
     changed = [{}, {"L": 0}, {"L": 65536}, {"n": 0}, {"n": 4097}, {"D": 0}, {"D": 31}, {"kept": 7}, {"kept": 0}, {"p": 2}]
     changed += [{"head": 3}, {"R": 14}, {"R": 15}] + [{name: TOP} for name in Record._fields]
-    for numbers in changed:
-        yield from asked(base._replace(**numbers), ring)
-    largest = Record(*[TOP] * 7)
-    yield from asked(largest, ring)
+    return [base._replace(**numbers) for numbers in changed] + [Record(*[TOP] * 7)]
+
+
+def no_books():
+    """Each of these asked, and the last of them with the largest numbers."""
+    ring = b"\x40"
+    for record in changed_records():
+        yield from asked(record, ring)
+    largest = changed_records()[-1]
     yield call("far", largest, ring, TOP)
     yield call("verdict", largest, ring, TOP, TOP)
 

@@ -17,5 +17,9 @@ class Life:
         self.lines.append(self.ask("add", x))
         _, self.record, self.ring = model.add(self.record, self.ring, x)
 
+    def run(self, counts):
+        self.lines.append(self.ask("run", counts))
+        _, _, self.record, self.ring = model.run(self.record, self.ring, counts)
+
     def ask(self, name, *arguments):
         return call(name, self.record, self.ring, *arguments)

@@ -18,6 +18,7 @@ import model
 import other_lines
 import paper_cases
 import ring_calls
+import run_calls
 import score_calls
 import worked
 
@@ -27,7 +28,7 @@ HOME = Path(__file__).resolve().parent.parent / "crates" / "vectors"
 def sections():
     """Every section's name and calls, in order. Random ones have a seed each, so that a change in one leaves the others as they are."""
     yield "lines of the format", []
-    for part in (paper_cases, ring_calls, book_calls, image_calls, score_calls, other_lines):
+    for part in (paper_cases, ring_calls, book_calls, run_calls, image_calls, score_calls, other_lines):
         yield from part.sections()
 
 
@@ -39,7 +40,7 @@ def lines():
 
 
 def main():
-    faults = list(worked.faults())
+    faults = [*worked.faults(), *run_calls.faults()]
     faults += [f"no section is named {name}" for name in worked.FIGURES.keys() - dict(sections()).keys()]
     if faults:
         sys.exit("\n".join(faults))

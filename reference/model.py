@@ -199,6 +199,19 @@ def add(r, ring, x):
     return 0, r, ring
 
 
+def run(r, ring, counts):
+    """8, 4, 7; with 7 the place, from 1, of the first count above L. All counts are looked at before one is taken."""
+    refusal = book_refusal(r, ring)
+    if refusal:
+        return refusal, 0, r, ring
+    above = [place for place, x in enumerate(counts, 1) if x > r.L]
+    if above:
+        return 7, above[0], r, ring
+    for x in counts:
+        _, r, ring = add(r, ring, x)
+    return 0, 0, r, ring
+
+
 def fields_of(r, ring):
     """The book's fields, the newest first."""
     s = slot_count(r.L, r.n, r.D)
@@ -359,8 +372,9 @@ def score(L, a, first, second):
 # --- lines ------------------------------------------------------------------------------------------------------------
 
 MOST_BYTES = 32768
-# The program's own limit: a line that fills its buffer of 262,144 bytes cannot be read.
-LONGEST_LINE = 262143
+MOST_COUNTS = 16384
+# The program's own limit: a line that fills its buffer of 524,288 bytes cannot be read.
+LONGEST_LINE = 524287
 
 
 class Unreadable(Exception):
@@ -401,15 +415,27 @@ def take_record(text):
     return Record(*numbers)
 
 
+def take_counts(text):
+    """Numbers joined by commas, `-` for none; more than 16,384 are not taken."""
+    if text == "-":
+        return []
+    counts = [take_number(part) for part in text.split(",")]
+    if len(counts) > MOST_COUNTS:
+        raise Unreadable
+    return counts
+
+
 def show(value):
     if isinstance(value, bytes):
         return value.hex() or "-"
+    if isinstance(value, list):
+        return ",".join(str(number) for number in value) or "-"
     if isinstance(value, Record):
         return ",".join(str(number) for number in value)
     return str(value)
 
 
-N, Y, A, R = take_number, take_bytes, take_byte, take_record
+N, Y, A, R, C = take_number, take_bytes, take_byte, take_record, take_counts
 
 CALLS = {
     "ring_clear": (ring_clear, (N, N, Y)),
@@ -418,6 +444,7 @@ CALLS = {
     "ring_sum": (ring_sum, (N, N, Y, N, N)),
     "open": (open_book, (N, N, N, Y)),
     "add": (add, (R, Y, N)),
+    "run": (run, (R, Y, C)),
     "total": (total, (R, Y, N)),
     "far": (far, (R, Y, N)),
     "verdict": (verdict, (R, Y, N, N)),

@@ -15,6 +15,8 @@ UNREADABLE = [
     *("total 5,,10,13,1,6,0 40 5", "total 5,6,10,13,1,6,0, 40 5", "total 5 40 5", "total - 40 5"),
     *("total 05,6,10,013,1,6,00 40 05", "total 5,6,10,13,1,6,0 40", "total 5,6,10,13,1,6,0 40 5 5"),
     *("add 5,6,10,13,1,6,0 40", "add 5,6,10,13,1,6,0 40 2 2", "verdict 5,6,10,13,1,6,0 40 4", "far 5,6,10,13,1,6,0 40 -"),
+    *("run 5,6,10,13,1,6,0 40", "run 5,6,10,13,1,6,0 40 ", "run 5,6,10,13,1,6,0 40 2 2", "run 5,6,10,13,1,6 40 2", "run 5,6,10,13,1,6,0 4 2"),
+    *(f"run 5,6,10,13,1,6,0 40 {row}" for row in ("2,", ",2", "2,,2", ",", "-,2", "2,-", "--", "2;2", "2.2", "2,a", "a,2", "+2,2", "2,02,002")),
     *("pgm", "pgm ", "pgm -", "pgm 5", "pgm 50", "pgm 50 50", "pgm 5x", "ring_clear 1 8", "ring_clear 1 8 a5"),
     *("ring_clear 1 8 a5 0", "ring_read 1 8 a5", "ring_write 1 8 a5 0", "ring_sum 1 8 a5 0", "ring_sum 1 8 a5 0 1 1"),
     *("score 600 255 - -", "score 600 256 - -", f"score 600 {TOP} - -", "score 600 12 -", "score 0 256 - -"),
@@ -25,6 +27,7 @@ def unreadable():
     """The lines above; numbers around 2^64 and of 5,000 digits; a field and a line too long, and a line after it that is not."""
     yield from UNREADABLE
     for number in (2**64 - 1, 2**64, 2**64 + 3, 2**64 + 5, 10 * 2**64, 10**30):
+        yield f"run 5,6,10,13,1,6,0 40 2,{number}"
         yield f"open {number} 6 10 ff"
         yield f"open 5 6 {number} ff"
         yield f"total 5,6,10,{number},1,6,0 40 5"
@@ -32,7 +35,7 @@ def unreadable():
     yield "open " + "0" * 5000 + "5 6 10 ff"
     yield "open " + "9" * 5000 + " 6 10 ff"
     yield "pgm " + "00" * 32769
-    yield "x" * 270000
+    yield "x" * (LONGEST_LINE + 8000)
     yield "open 5 6 10 ff"
 
 

@@ -46,6 +46,24 @@ FIGURES = {
         ("total 5,6,10,0,0,0,0 00 0", "0 0"),
         ("total 5,6,10,0,0,0,0 00 1", "5 0"),
     ],
+    # Case A in one call; a count above L; no counts; from its record on; a record that is none; rings of no bytes. Then B, C and D in one call.
+    "cases A to D: runs": [
+        ("run 5,6,10,0,0,0,0 00 3,4,5,5,0,1,5", "0 0 5,6,10,13,1,6,0 40"),
+        ("run 5,6,10,0,0,0,0 00 3,4,6,5,0,1,5", "7 3 5,6,10,0,0,0,0 00"),
+        ("run 5,6,10,0,0,0,0 00 3,4,6,5,0,1,6", "7 3 5,6,10,0,0,0,0 00"),
+        ("run 5,6,10,0,0,0,0 00 -", "0 0 5,6,10,0,0,0,0 00"),
+        (f"run {A} -", f"0 0 {A}"),
+        (f"run {A} 2", "0 0 5,6,10,5,0,6,1 c0"),
+        (f"run {A} 5", "0 0 5,6,10,8,0,6,1 c0"),
+        (f"run {A} 6", f"7 1 {A}"),
+        (f"run {A} 5,6", f"7 2 {A}"),
+        ("run 5,6,10,15,1,6,0 40 6", "8 0 5,6,10,15,1,6,0 40"),
+        ("run 5,6,10,15,1,6,0 - -", "8 0 5,6,10,15,1,6,0 -"),
+        *((f"run 5,6,10,13,1,6,0 - {counts}", "4 0 5,6,10,13,1,6,0 -") for counts in ("5", "6", "-")),
+        ("run 3,4,2,0,0,0,0 00 1,3,0,3", "0 0 3,4,2,1,0,4,0 21"),
+        ("run 9,3,1,0,0,0,0 0000 9,0,4,2", "0 0 9,3,1,0,0,3,1 2040"),
+        ("run 5,3,15,0,0,0,0 00 5,5,5,0", "0 0 5,3,15,0,1,3,0 80"),
+    ],
     "case G: ranges of width, height and maxval": [
         ("pgm -", "14 0 0 0 0 0 0"),
         (f"pgm {b'P5 1025 '.hex()}", "12 0 0 0 0 0 0"),
@@ -79,12 +97,22 @@ def lines(section):
     return [line for line, _ in FIGURES.get(section, [])]
 
 
-def after(L, n, D, items):
-    """The record and the ring after the items, as they are written on a line."""
-    _, record, ring = model.open_book(L, n, D, b"\xff" * model.book_bytes(L, n, D))
+def one_by_one(record, ring, items):
+    """The record and the ring after an adding for each of the items."""
     for x in items:
         _, record, ring = model.add(record, ring, x)
-    return f"{model.show(record)} {model.show(ring)}"
+    return record, ring
+
+
+def at_once(record, ring, items):
+    """The record and the ring after one run of the items."""
+    return model.run(record, ring, items)[2:]
+
+
+def after(way, L, n, D, items):
+    """The record and the ring of a book opened and given the items in this way, as they are written on a line."""
+    _, record, ring = model.open_book(L, n, D, b"\xff" * model.book_bytes(L, n, D))
+    return " ".join(model.show(part) for part in way(record, ring, items))
 
 
 def faults():
@@ -93,5 +121,6 @@ def faults():
         if model.answer(line) != expected:
             yield f"{line}: the model answers {model.answer(line)}, worked by hand {expected}"
     for L, n, D, items, expected in LIVES:
-        if after(L, n, D, items) != expected:
-            yield f"items {items}: the model leaves {after(L, n, D, items)}, worked by hand {expected}"
+        for way in (one_by_one, at_once):
+            if after(way, L, n, D, items) != expected:
+                yield f"items {items}, {way.__name__}: the model leaves {after(way, L, n, D, items)}, worked by hand {expected}"

@@ -1,4 +1,5 @@
-/* Case A of docs/SCOPE.md, through the header, and the small pictures of its program; the shapes of its book and of the box's. */
+/* Case A of docs/SCOPE.md, through the header, item by item and as one run, and the small pictures of its program; the shapes of its book
+   and of the box's. */
 #include "../include/uprzezar.h"
 
 #include <inttypes.h>
@@ -58,6 +59,30 @@ static void book(void) {
     printf("the byte behind the ring: %02x\n", ring[1]);
 }
 
+static uprzezar_book ran(uprzezar_ran answer, const uint8_t *ring) {
+    uprzezar_book b = answer.book;
+    printf("run: refusal %u, place %" PRIu64 ": carry %" PRIu64 ", phase %" PRIu64 ", kept %" PRIu64 ", head %" PRIu64 ", ring %02x\n",
+           answer.refusal, answer.place, b.carry, b.phase, b.kept, b.head, ring[0]);
+    return b;
+}
+
+static void runs(void) {
+    static const uint64_t items[] = {3, 4, 5, 5, 0, 1, 5};
+    static const uint64_t more[] = {2, 5, 6, 7};
+    uint8_t ring[2] = {0xff, 0xff};
+    uprzezar_book b = uprzezar_open(5, 6, 10, ring, 1).book;
+    uprzezar_book none;
+    b = ran(uprzezar_run(b, ring, 1, items, sizeof items / sizeof *items), ring);
+    ran(uprzezar_run(b, ring, 1, more, 4), ring);
+    ran(uprzezar_run(b, ring, 1, more, 0), ring);
+    ran(uprzezar_run(b, ring, 0, more, 4), ring);
+    none = b;
+    none.phase = 2;
+    ran(uprzezar_run(none, ring, 0, more, 4), ring);
+    ran(uprzezar_run(b, ring, 1, more, 1), ring);
+    printf("the byte behind the ring: %02x\n", ring[1]);
+}
+
 static void pictures(void) {
     static const uint8_t one[] = "P5\n2 2\n255\n\0\0\0";
     static const uint8_t two[] = "P5 2 2 255 \024\014\015";
@@ -85,6 +110,7 @@ static void slots(void) {
 int main(void) {
     shapes();
     book();
+    runs();
     pictures();
     slots();
     return 0;

@@ -57,7 +57,7 @@ fn add_by_value(mut book: Book, ring: &mut [u8], item: u64) -> (Result<(), Refus
     (book.add(ring, item), book)
 }
 
-/// Items that are added one after the other, each to the record that the last one left.
+/// Items that are added one after the other, each to the record that the last one left, or all of them in one call.
 #[derive(Clone)]
 struct Run {
     book: Book,
@@ -95,6 +95,18 @@ impl Run {
             next
         })
     }
+
+    fn in_one_call(mut self) -> Repeated {
+        repeated(move || {
+            let mut next = black_box(self.book);
+            next.run(&mut self.ring, &self.items).expect("counts within the bound");
+            next
+        })
+    }
+
+    fn proved_in_one_call(mut self) -> Repeated {
+        repeated(move || proved::run(black_box(crossed(self.book)), &mut self.ring, &self.items))
+    }
 }
 
 fn shape_case(cases: &mut Vec<Case>, setting: &str, bound: u64, length: u64, tolerance: u64) {
@@ -130,7 +142,17 @@ fn book_cases(cases: &mut Vec<Case>, setting: &str, bound: u64, length: u64, tol
     cases.push(Case {
         name: format!("the same, the record by value on both sides, {setting}"),
         plain: run.clone().by_value(),
-        proved: run.proved(),
+        proved: run.clone().proved(),
+    });
+    cases.push(Case {
+        name: format!("1,000 counts in one call beside 1,000 plain adds, {setting}"),
+        plain: run.clone().in_place(),
+        proved: run.clone().proved_in_one_call(),
+    });
+    cases.push(Case {
+        name: format!("1,000 counts in one call on both sides, {setting}"),
+        plain: run.clone().in_one_call(),
+        proved: run.proved_in_one_call(),
     });
     let (ring_a, ring_b) = (a.clone(), b.clone());
     cases.push(Case {

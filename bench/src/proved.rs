@@ -36,6 +36,14 @@ pub struct Updated {
     pub book: Book,
 }
 
+#[derive(Clone, Copy, Debug, PartialEq, Eq)]
+#[repr(C)]
+pub struct Ran {
+    pub refusal: u8,
+    pub place: u64,
+    pub book: Book,
+}
+
 /// A number, or a refusal with the number 0: a figure, a window, a slot's number, a sum or a score.
 #[derive(Clone, Copy, Debug, PartialEq, Eq)]
 #[repr(C)]
@@ -79,6 +87,7 @@ extern "C" {
     fn uprzezar_shape(bound: u64, length: u64, tolerance: u64) -> Shaped;
     fn uprzezar_open(bound: u64, length: u64, tolerance: u64, ring: *mut u8, bytes: usize) -> Updated;
     fn uprzezar_add(book: Book, ring: *mut u8, bytes: usize, item: u64) -> Updated;
+    fn uprzezar_run(book: Book, ring: *mut u8, bytes: usize, counts: *const u64, how_many: usize) -> Ran;
     fn uprzezar_total(book: Book, ring: *const u8, bytes: usize, window: u64) -> Answer;
     fn uprzezar_far(book: Book, ring: *const u8, bytes: usize, amount: u64) -> Answer;
     fn uprzezar_verdict(book: Book, ring: *const u8, bytes: usize, window: u64, amount: u64) -> Ruled;
@@ -87,7 +96,7 @@ extern "C" {
     fn uprzezar_score(bound: u64, allowance: u8, first: *const u8, ones: usize, second: *const u8, twos: usize) -> Answer;
 }
 
-// A slice is all that the header asks of its callers: a pointer that is not null, with a length, and no other writer.
+// A slice is all that the header asks of its callers: a pointer that is not null, aligned, with a length, and no other writer.
 
 pub fn ring_clear(width: usize, slots: usize, ring: &mut [u8]) -> u8 {
     unsafe { uprzezar_ring_clear(width, slots, ring.as_mut_ptr(), ring.len()) }
@@ -115,6 +124,10 @@ pub fn open(bound: u64, length: u64, tolerance: u64, ring: &mut [u8]) -> Updated
 
 pub fn add(book: Book, ring: &mut [u8], item: u64) -> Updated {
     unsafe { uprzezar_add(book, ring.as_mut_ptr(), ring.len(), item) }
+}
+
+pub fn run(book: Book, ring: &mut [u8], counts: &[u64]) -> Ran {
+    unsafe { uprzezar_run(book, ring.as_mut_ptr(), ring.len(), counts.as_ptr(), counts.len()) }
 }
 
 pub fn total(book: Book, ring: &[u8], window: u64) -> Answer {

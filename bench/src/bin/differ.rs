@@ -14,11 +14,15 @@ struct Tally {
     counts: [u64; 17],
 }
 
-fn same<T: PartialEq + std::fmt::Debug>(tally: &mut Tally, refusal: u8, plain: T, proved: T, call: impl Fn() -> String) {
-    if plain != proved {
-        println!("{}: plain {plain:?}, proved {proved:?}\n{}", tally.name, call());
+fn alike<T: PartialEq + std::fmt::Debug>(name: &str, side: &str, other: T, proved: T, call: impl Fn() -> String) {
+    if other != proved {
+        println!("{name}: {side} {other:?}, proved {proved:?}\n{}", call());
         std::process::exit(1);
     }
+}
+
+fn same<T: PartialEq + std::fmt::Debug>(tally: &mut Tally, refusal: u8, plain: T, proved: T, call: impl Fn() -> String) {
+    alike(tally.name, "plain", plain, proved, call);
     tally.counts[refusal as usize] += 1;
 }
 
@@ -194,6 +198,58 @@ fn book_calls(chance: &mut Chance, t: &mut [Tally]) {
     same(&mut t[3], p.refusal, p, q, call);
 }
 
+/// Counts for a run, none of them at times: within the bound, but in a quarter of the runs one or two that are not.
+fn counts_for(chance: &mut Chance, bound: u64) -> Vec<u64> {
+    let most = if chance.one_in(200) { 10_000 } else { 60 };
+    let many = near(chance, most).min(most + 1);
+    let calm = chance.one_in(8);
+    let mut count = || if calm && !chance.one_in(8) { 0 } else { chance.below(bound.saturating_add(1)) };
+    let mut counts: Vec<u64> = (0..many).map(|_| count()).collect();
+    if many > 0 && chance.one_in(4) {
+        for _ in 0..1 + chance.below(2) {
+            let anything = chance.next();
+            let bad = chance.pick(&[bound.wrapping_add(1), 1 << 63, (1 << 63) - 1, (1 << 63) + 1, u64::MAX, anything]);
+            counts[chance.below(many) as usize] = bad;
+        }
+    }
+    counts
+}
+
+/// A run by the library's own adds, one for each count: where one is refused, nothing is taken. Whether record and ring are refused, the
+/// total of no items tells.
+fn one_by_one(book: proved::Book, ring: &mut Vec<u8>, counts: &[u64]) -> proved::Ran {
+    let refused = |refusal, place| proved::Ran { refusal, place, book };
+    let asked = proved::total(book, ring, 0);
+    if asked.refusal != 0 {
+        return refused(asked.refusal, 0);
+    }
+    let (mut next, mut bytes) = (book, ring.clone());
+    for (place, &count) in (1..).zip(counts) {
+        let added = proved::add(next, &mut bytes, count);
+        if added.refusal != 0 {
+            return refused(added.refusal, place);
+        }
+        next = added.book;
+    }
+    *ring = bytes;
+    proved::Ran { refusal: 0, place: 0, book: next }
+}
+
+fn run_call(chance: &mut Chance, t: &mut Tally) {
+    let (mut book, bytes) = state(chance);
+    let counts = counts_for(chance, book.bound);
+    let record = crossed(book);
+    let call = || format!("{record:?}, counts {counts:?}, ring {bytes:02x?}");
+
+    let [mut a, mut b, mut c] = [bytes.clone(), bytes.clone(), bytes.clone()];
+    let (refusal, place) = book.run(&mut a, &counts).map_or_else(|why| (why.refusal as u8, why.place), |()| (0, 0));
+    let p = proved::Ran { refusal, place, book: crossed(book) };
+    let q = proved::run(record, &mut b, &counts);
+    let one = one_by_one(record, &mut c, &counts);
+    alike(t.name, "one by one", (one, &c), (q, &b), call);
+    same(t, refusal, (p, a), (q, b), call);
+}
+
 fn whites(chance: &mut Chance, into: &mut Vec<u8>) {
     for _ in 0..1 + chance.below(3) * chance.below(2) {
         into.push(chance.pick(b" \t\r\n"));
@@ -290,8 +346,8 @@ fn image_calls(chance: &mut Chance, t: &mut [Tally]) {
 fn main() {
     let rounds: u64 = std::env::args().nth(1).map_or(1_000_000, |n| n.parse().expect("a number of rounds"));
     let names = [
-        "ring_clear", "ring_read", "ring_write", "ring_sum", "shape", "open", "add", "total", "far", "verdict", "header", "raster",
-        "score",
+        "ring_clear", "ring_read", "ring_write", "ring_sum", "shape", "open", "add", "total", "far", "verdict", "run", "header",
+        "raster", "score",
     ];
     let mut tallies = names.map(|name| Tally { name, counts: [0; 17] });
     let mut chance = Chance::new(2026);
@@ -300,7 +356,8 @@ fn main() {
         shape_call(&mut chance, &mut tallies[4]);
         open_call(&mut chance, &mut tallies[5]);
         book_calls(&mut chance, &mut tallies[6..10]);
-        image_calls(&mut chance, &mut tallies[10..13]);
+        run_call(&mut chance, &mut tallies[10]);
+        image_calls(&mut chance, &mut tallies[11..14]);
     }
     println!("{} calls on both sides, no difference; how many with which refusal:", rounds * names.len() as u64);
     for tally in &tallies {

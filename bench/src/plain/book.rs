@@ -15,6 +15,13 @@ pub struct Book {
     pub head: u64,
 }
 
+/// Why a run was refused, and with `ItemTooLarge` the place, from 1, of the first count above the bound; with any other 0.
+#[derive(Clone, Copy, Debug, PartialEq, Eq)]
+pub struct RunRefused {
+    pub refusal: Refusal,
+    pub place: u64,
+}
+
 #[derive(Clone, Copy, Debug, PartialEq, Eq)]
 pub enum Verdict {
     Live,
@@ -100,6 +107,26 @@ impl Book {
         if item > self.bound {
             return Err(Refusal::ItemTooLarge);
         }
+        self.take(&shape, ring, item);
+        Ok(())
+    }
+
+    /// All counts, one after the other, or none of them where one is above the bound.
+    #[inline(never)]
+    pub fn run(&mut self, ring: &mut [u8], counts: &[u64]) -> Result<(), RunRefused> {
+        let shape = self.check(ring).map_err(|refusal| RunRefused { refusal, place: 0 })?;
+        if let Some(before) = counts.iter().position(|&count| count > self.bound) {
+            return Err(RunRefused { refusal: Refusal::ItemTooLarge, place: before as u64 + 1 });
+        }
+        for &count in counts {
+            self.take(&shape, ring, count);
+        }
+        Ok(())
+    }
+
+    /// Takes an item within the bound.
+    #[inline]
+    fn take(&mut self, shape: &Shape, ring: &mut [u8], item: u64) {
         self.carry += item;
         self.phase += 1;
         self.kept = (self.kept + 1).min(self.length);
@@ -110,7 +137,6 @@ impl Book {
             self.phase = 0;
             self.head = if self.head + 1 == shape.slots as u64 { 0 } else { self.head + 1 };
         }
-        Ok(())
     }
 
     fn figure(&self, sum: u64, e: u64, g: u64) -> u64 {

@@ -11,6 +11,7 @@ use Rattle.refusals.specs.Demand1.{Tells, Promised}
 use Rattle.refusals.proofs.Calls.{asks-leaves, promised, tells}
 use Rattle.book.specs.declared.Book.{Book}
 use Rattle.book.specs.declared.Updated.{Updated}
+use Rattle.book.specs.declared.Ran.{Ran}
 use Rattle.book.specs.declared.Figure.{Figure}
 use Rattle.book.specs.declared.Window.{Window}
 use Rattle.book.specs.declared.shape.Shaped.{Shaped}
@@ -19,10 +20,11 @@ use Rattle.book.specs.declared.verdicts.Ruling.{Ruling}
 use Rattle.book.specs.declared.verdicts.Ruling.the-variants.{Told, Refused}
 use Rattle.book.specs.Verdict.{refusalIn}
 use Rattle.book.specs.Shape.{shapeCall}
-use Rattle.book.specs.Calls.{openCall, addCall, totalCall, howFarCall, verdictCall}
+use Rattle.book.specs.Calls.{openCall, addCall, runCall, totalCall, howFarCall, verdictCall}
 use Rattle.book.proofs.shape.derive.Reads as derive-reads
 use Rattle.book.proofs.open.Reads as open-reads
 use Rattle.book.proofs.add.Reads as add-reads
+use Rattle.book.proofs.run.Reads as run-reads
 use Rattle.book.proofs.total.Reads as total-reads
 use Rattle.book.proofs.how_far_back.Reads as far-reads
 use Rattle.book.proofs.verdict.Reads as verdict-reads
@@ -74,3 +76,9 @@ module _ (κs : Lfts 1) where
       (λ a. verdictCall (a .0) (now (a .1 .0)) (a .1 .1 .0) (a .1 .1 .1 .0)) refusalIn
   verdict-promised =
       promised _ _ _ _ (λ a r e p. (p, verdict-leaves _ _ _ _)) _ (λ a. verdict-tells _ _ _ _ (λ verdict. refl) (λ number. refl))
+
+-- a run of counts, which are lent beside the ring
+pub run-promised : (κs : Lfts 2) → Promised (run-reads.Post κs) (λ r. r) (λ a e. now (e .1 .0))
+    (λ a. runCall (a .0) (now (a .1 .0)) (now (a .1 .1 .0))) (λ (r : Ran). r .refusal)
+unfolding runCall
+run-promised κs = promised _ _ _ _ (λ a r e p. p) _ (λ a. tells tt refl (λ number. refl))

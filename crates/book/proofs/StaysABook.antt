@@ -1,15 +1,20 @@
--- Opening makes a book, and adding keeps it one: the record that comes back passes refusal 8 again.
+-- Opening makes a book, and adding keeps it one, with its numbers and its ring: the record that comes back passes refusals 8 and 4 again.
 -- Assumes nothing.
-use Prim.Native.Nat.{ℕ, zero, suc, _+_, _-_, _*_, _/_, _%_, _≤_, _<_, min}
+use Prim.Native.Nat.{ℕ, _+_, _-_, _*_, _%_, _^_, _≤_, _<_}
 use native.Mathlib.Nat.{div-add-mod, mod-lt, mul-comm}
 use native.Mathlib.Omega.{arith}
-use mathlib.Core.Path.{_≡_, refl, sym, ap, _∙_}
+use mathlib.Core.List.{List, []}
+use mathlib.Core.Path.{_≡_, refl}
+use lib.ListN.{length}
+use Rattle.ring.proofs.Promises.{length-written}
 use Rattle.book.specs.declared.Book.{Book}
-use Rattle.book.specs.Record.{blockOf, slotsOf, opened}
-use Rattle.book.specs.Sound.{Ranges, Sound}
-use Rattle.book.specs.Adding.{carryWith, quotientOf, addedOpen, addedClosed}
+use Rattle.book.specs.Record.{blockOf, slotsOf, widthOf, opened}
+use Rattle.book.specs.Sound.{Ranges, Sound, Usable}
+use Rattle.book.specs.Adding.{carryWith, quotientOf, addedOpen, addedClosed, added, addedRing}
 use Rattle.book.proofs.NumbersInRange.{block-low, block-high, slots-low}
+use Rattle.book.proofs.StepsInRange.{book-lent, quotient-in}
 use Rattle.book.proofs.NextSlot.{slot-after-lt}
+use Rattle.book.proofs.AddingInTwoCases.{adding-cases}
 
 pub opened-sound : (bound n tolerance : ℕ) → Ranges bound n tolerance → Sound (opened bound n tolerance)
 opened-sound bound n tolerance r =
@@ -52,3 +57,30 @@ module _ (book : Book) (sound : Sound book) (item : ℕ) (small : item ≤ book 
         head-high = slot-after-lt (slotsOf book) (book .head) (sound .head-high);
         carry-high = omega (arith, closed-carry, mod-lt (carryWith book item) (sound .ranges .tolerance-low));
       }
+
+-- L, n and D of a record are those of another …
+pub record SameNumbers (book book′ : Book) : Type 0 where
+  pub bound-same : book′ .bound ≡ book .bound
+  pub length-same : book′ .length ≡ book .length
+  pub tolerance-same : book′ .tolerance ≡ book .tolerance
+
+-- … and adding leaves them
+pub added-same : (book : Book) (item : ℕ) → SameNumbers book (added book item)
+added-same book item =
+    adding-cases (λ b r. SameNumbers book b) book [] item
+    (λ closes. record { bound-same = refl; length-same = refl; tolerance-same = refl })
+    (λ more. record { bound-same = refl; length-same = refl; tolerance-same = refl })
+
+-- after an item that is taken the record is a book still, and the ring, which is as long as it was, is lent whole
+pub added-usable : (book : Book) (ring : List ℕ) (item : ℕ) → Usable book (length ring) → item ≤ book .bound
+    → Usable (added book item) (length (addedRing book ring item))
+added-usable book ring item usable small =
+    adding-cases (λ b r. Usable b (length r)) book ring item
+    (λ closes. (let fits : quotientOf book item < 2 ^ widthOf book = quotient-in book (usable .sound) item small closes in
+    let whole = book-lent (book .bound) (book .length) (book .tolerance) (length ring) (usable .sound .ranges) (usable .room) in
+    record {
+      sound = closed-sound book (usable .sound) item small;
+      room = rw (length-written (widthOf book) (slotsOf book) ring whole (book .head) (usable .sound .head-high) (quotientOf book item) fits)
+          (usable .room);
+    }))
+    (λ more. record { sound = open-sound book (usable .sound) item small more; room = usable .room })

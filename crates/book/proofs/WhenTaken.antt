@@ -23,11 +23,12 @@ use Rattle.book.specs.declared.shape.Shaped.{Shaped}
 use Rattle.book.specs.Shape.{numberFaults, shapeOf, shapeCall}
 use Rattle.book.specs.Record.{blockOf, slotsOf, bytesOf, opened}
 use Rattle.book.specs.Adding.{added, addedRing}
+use Rattle.book.specs.RunOfCounts.{anyAbove, addedAll, addedAllRing}
 use Rattle.book.specs.Figure.{figure}
 use Rattle.book.specs.Verdict.{verdictOf}
 use Rattle.book.specs.Sound.{Ranges, Usable}
 use Rattle.book.specs.HowFar.{howFarBack}
-use Rattle.book.specs.Calls.{rangeFaults, stateFaults, roomFault, bookFaults, itemFault, windowFault, zeroFault, reachFault, openCall, addCall, totalCall, howFarCall, verdictCall}
+use Rattle.book.specs.Calls.{rangeFaults, stateFaults, roomFault, bookFaults, itemFault, countsFault, windowFault, zeroFault, reachFault, openCall, addCall, runCall, totalCall, howFarCall, verdictCall}
 
 -- L, n and D are in their ranges exactly where none of their faults holds
 pub ranges-known : (bound n tolerance : ℕ) (later : List Fault) → NoneHolds (numberFaults bound n tolerance ++ later)
@@ -212,6 +213,19 @@ module _ (book : Book) (ring : List ℕ) where
   unfolding totalCall
   total-taken window u h = taken (windowFault book window ∷ []) u (le-ltb (book .kept) window h, tt)
 
+  -- a RUN: where none of its counts is above L
+  pub run-known : (counts : List ℕ) → refusalOf (runCall book ring counts) ≡ 0
+      → Usable book (length ring) × (anyAbove (book .bound) counts ≡ false)
+  unfolding runCall
+  run-known counts e =
+      let k = known (countsFault book counts ∷ []) tt e in
+      (k .0, k .1 .0)
+
+  pub run-taken : (counts : List ℕ) → Usable book (length ring) → anyAbove (book .bound) counts ≡ false
+      → refusalOf (runCall book ring counts) ≡ 0
+  unfolding runCall
+  run-taken counts u none = taken (countsFault book counts ∷ []) u (none, tt)
+
   -- HOW FAR BACK: where the amount is not 0 and a window reaches it
   pub far-known : (amount : ℕ) → refusalOf (howFarCall book ring amount) ≡ 0
       → Usable book (length ring) × (0 < amount) × (0 < howFarBack book ring amount)
@@ -258,6 +272,14 @@ module _ (book : Book) (ring : List ℕ) where
   unfolding addCall
   add-gives item e =
       let call = addCall book ring item in
+      (sym (result-taken call (sym e) refl), sym (left-taken call (sym e) refl))
+
+  pub run-gives : (counts : List ℕ) → refusalOf (runCall book ring counts) ≡ 0
+      → (resultOf (runCall book ring counts) ≡ record { refusal = 0; place = 0; book = addedAll book counts })
+      × (leftOf (runCall book ring counts) ≡ addedAllRing book ring counts)
+  unfolding runCall
+  run-gives counts e =
+      let call = runCall book ring counts in
       (sym (result-taken call (sym e) refl), sym (left-taken call (sym e) refl))
 
   pub total-gives : (window : ℕ) → refusalOf (totalCall book ring window) ≡ 0

@@ -9,6 +9,7 @@ use Rattle.refusals.specs.Call.{Call}
 use Rattle.ring.specs.Slot.{cleared}
 use Rattle.book.specs.declared.Book.{Book}
 use Rattle.book.specs.declared.Updated.{Updated}
+use Rattle.book.specs.declared.Ran.{Ran}
 use Rattle.book.specs.declared.Figure.{Figure}
 use Rattle.book.specs.declared.Window.{Window}
 use Rattle.book.specs.declared.verdicts.Ruling.{Ruling}
@@ -18,6 +19,7 @@ use Rattle.book.specs.Derived.{slotCount, fieldWidth, bytesNeeded}
 use Rattle.book.specs.Shape.{numberFaults}
 use Rattle.book.specs.Record.{blockOf, slotsOf, bytesOf, opened, noBookAtAll}
 use Rattle.book.specs.Adding.{added, addedRing}
+use Rattle.book.specs.RunOfCounts.{anyAbove, placeWith, addedAll, addedAllRing}
 use Rattle.book.specs.Figure.{figure}
 use Rattle.book.specs.HowFar.{howFarBack}
 use Rattle.book.specs.Verdict.{verdictOf}
@@ -52,6 +54,10 @@ bookFaults book lent = rangeFaults book ++ stateFaults book ++ roomFault (bytesO
 abbrev pub itemFault : Book → ℕ → Fault
 itemFault book item = ltb (book .bound) item gives itemTooLarge
 
+-- 7: a count of a run is above L
+abbrev pub countsFault : Book → List ℕ → Fault
+countsFault book counts = anyAbove (book .bound) counts gives itemTooLarge
+
 -- 5: the window is longer than kept
 abbrev pub windowFault : Book → ℕ → Fault
 windowFault book window = ltb (book .kept) window gives windowTooLong
@@ -84,6 +90,18 @@ addCall book ring item =
       given = record { refusal = 0; book = added book item };
       left = addedRing book ring item;
       back = λ refusal. record { refusal = refusal; book = book };
+      lent = ring;
+    }
+
+-- A run of counts: 8, 4, 7. It gives the record and leaves the ring with all counts added; a refusal hands the record back as it came, and
+-- with 7 comes the place of the first count above L
+unfoldable pub runCall : Book → List ℕ → List ℕ → Call Ran (List ℕ)
+runCall book ring counts =
+    record {
+      faults = bookFaults book (length ring) ++ countsFault book counts ∷ [];
+      given = record { refusal = 0; place = 0; book = addedAll book counts };
+      left = addedAllRing book ring counts;
+      back = λ refusal. record { refusal = refusal; place = placeWith (book .bound) counts refusal; book = book };
       lent = ring;
     }
 

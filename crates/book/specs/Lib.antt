@@ -5,8 +5,11 @@ pub mod Record
 pub mod Sound
 pub mod Stops
 pub mod Adding
+pub mod RunOfCounts
+pub mod RunSteps
 pub mod Figure
 pub mod HowFar
 pub mod Verdict
 pub mod Calls
+pub mod OneByOne
 pub mod Judged

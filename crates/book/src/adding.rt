@@ -1,7 +1,9 @@
-// Adding one item to a book that takes it: specs/Adding.antt.
+// Adding one item to a book that takes it, and closing a block, which a run of counts does too: specs/Adding.antt.
 ghost use mathlib.Core.Path.{_≡_};
-ghost use Prim.Native.Nat.{_≤_, _<_};
+ghost use Prim.Native.Nat.{_-_, _*_, _/_, _^_, _≤_, _<_};
 ghost use lib.ListN.{length};
+ghost use Rattle.ring.specs.Slot.{written};
+ghost use Rattle.ring.specs.Lent.{Lent};
 ghost use Rattle.book.specs.Record.{recordWith};
 ghost use Rattle.book.specs.Judged.{Ready};
 ghost use Rattle.book.specs.Adding.{slotAfter, keptMore, added, addedRing};
@@ -10,7 +12,7 @@ use crate::shape::Shape;
 use crate::slots;
 
 // The record with another carry, phase, kept and head: the one place where a changed record is made.
-fn with(book: Book, carry: u64, phase: u64, kept: u64, head: u64) -> Book
+pub(crate) fn with(book: Book, carry: u64, phase: u64, kept: u64, head: u64) -> Book
     ensures { λ r. ⌜ r ≡ recordWith book carry phase kept head ⌝ }
 {
     Book {
@@ -44,6 +46,25 @@ fn kept_more(book: Book) -> u64
     }
 }
 
+// What closing a block leaves: the carry, and the slot that is written next.
+pub(crate) struct Closed {
+    pub(crate) carry: u64,
+    pub(crate) head: u64,
+}
+
+// A block closes with this carry: the quotient goes into the ring's slot head, and what is left of the carry is the remainder.
+pub(crate) fn close(tolerance: u64, shape: Shape, ring: &mut [u8], head: u64, carry: u64) -> Closed
+    requires { ⌜ Lent (shape .width) (shape .slots) (length (now ring)) × (head < shape .slots) × (1 ≤ tolerance) × (carry / tolerance < 2 ^ shape .width) ⌝ }
+    ensures { λ r. ⌜ (r ≡ record { carry = carry - carry / tolerance * tolerance; head = slotAfter (shape .slots) head }) × (now (ring .exit) ≡ written (shape .width) (now (ring .entry)) head (carry / tolerance)) ⌝ }
+{
+    let quotient = carry / tolerance;
+    slots::put(shape, ring, head, quotient);
+    Closed {
+        carry: carry - quotient * tolerance,
+        head: slot_after(shape.slots, head),
+    }
+}
+
 // The record after the item; where the block closes, the quotient goes into the ring's slot head.
 pub(crate) fn add(book: Book, shape: Shape, ring: &mut [u8], item: u64) -> Book
     requires { ⌜ Ready book shape (length (now ring)) × (item ≤ book .bound) ⌝ }
@@ -55,8 +76,6 @@ pub(crate) fn add(book: Book, shape: Shape, ring: &mut [u8], item: u64) -> Book
     if phase != shape.block {
         return with(book, carry, phase, kept, book.head);
     }
-    let quotient = carry / book.tolerance;
-    slots::put(shape, ring, book.head, quotient);
-    let head = slot_after(shape.slots, book.head);
-    with(book, carry - quotient * book.tolerance, 0, kept, head)
+    let closed = close(book.tolerance, shape, ring, book.head, carry);
+    with(book, closed.carry, 0, kept, closed.head)
 }

@@ -1,9 +1,9 @@
-// A book of frame counts: it takes one count a frame and tells, within a tolerance, how much changed over the last i frames.
+// A book of frame counts: it takes one count a frame, or a run of them, and tells, within a tolerance, how much changed over the last i frames.
 // The record goes in and comes back by value, the ring is lent. What each call answers and leaves is defined in specs/Calls.antt.
 ghost use mathlib.Core.Path.{_≡_};
 ghost use Rattle.refusals.specs.Call.{resultOf, leftOf};
 ghost use Rattle.book.specs.Record.{opened};
-ghost use Rattle.book.specs.Calls.{openCall, addCall, totalCall, howFarCall, verdictCall};
+ghost use Rattle.book.specs.Calls.{openCall, addCall, runCall, totalCall, howFarCall, verdictCall};
 use refusals::ITEM_TOO_LARGE;
 use refusals::NOT_REACHED;
 use refusals::RING_TOO_SHORT;
@@ -14,6 +14,7 @@ use verdicts::Ruling;
 mod adding;
 mod distance;
 mod judge;
+mod running;
 pub mod shape;
 mod slots;
 mod totals;
@@ -35,6 +36,14 @@ pub struct Book {
 #[repr(C)]
 pub struct Updated {
     pub refusal: u8,
+    pub book: Book,
+}
+
+// A refusal number, 0 for none; with ITEM_TOO_LARGE the place, from 1, of the first count above the bound, else 0; and the record to go on with.
+#[repr(C)]
+pub struct Ran {
+    pub refusal: u8,
+    pub place: u64,
     pub book: Book,
 }
 
@@ -113,6 +122,35 @@ pub fn add(book: Book, ring: &mut [u8], item: u64) -> Updated
     let next = adding::add(book, shape, ring, item);
     Updated {
         refusal: 0,
+        book: next,
+    }
+}
+
+// Adds a run of counts to a book, all of them or none.
+pub fn run(book: Book, ring: &mut [u8], counts: &[u64]) -> Ran
+    ensures { λ r. ⌜ (r ≡ resultOf (runCall book (now (ring .entry)) (now (counts .entry)))) × (now (ring .exit) ≡ leftOf (runCall book (now (ring .entry)) (now (counts .entry)))) ⌝ }
+{
+    let judged = judge::usable(book, judge::count(ring.len()));
+    if judged.refusal != 0 {
+        return Ran {
+            refusal: judged.refusal,
+            place: 0,
+            book,
+        };
+    }
+    let place = running::place_above(book.bound, counts);
+    if place != 0 {
+        return Ran {
+            refusal: ITEM_TOO_LARGE,
+            place,
+            book,
+        };
+    }
+    let shape = judged.shape;
+    let next = running::add_all(book, shape, ring, counts);
+    Ran {
+        refusal: 0,
+        place: 0,
         book: next,
     }
 }

@@ -7,8 +7,8 @@ ghost use Rattle.ring.specs.Newest.{slotBefore, newest, sumNewest};
 ghost use Rattle.ring.specs.Lent.{Lent};
 use crate::shape::Shape;
 
-// A number of the book as the ring takes it.
-fn index(n: u64) -> usize
+// A number of the book as an index: the ring takes such, and so do the counts of a run.
+pub(crate) fn index(n: u64) -> usize
     ensures { λ r. ⌜ r ≡ n ⌝ }
 {
     n as usize

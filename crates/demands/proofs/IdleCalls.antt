@@ -1,4 +1,4 @@
--- The calls of the book that change nothing are calls of a good book's history (promise 2.2): a refused item, a total, how far back, a verdict.
+-- Calls of the book that change nothing are calls of a good book's history (promise 2.2): a refused item or run, a total, how far back, a verdict.
 -- Each is seen by the record that its caller goes on with: the one that comes back, or, where the result has none, the one that went in.
 -- Assumes nothing.
 use Prim.Native.Nat.{ℕ}
@@ -8,9 +8,10 @@ use mathlib.Core.Path.{_≡_, refl}
 use Rattle.refusals.specs.Call.{Call, refusalOf, resultOf, leftOf, seenAs}
 use Rattle.book.specs.declared.Book.{Book}
 use Rattle.book.specs.declared.Updated.{Updated}
-use Rattle.book.specs.Calls.{addCall, totalCall, howFarCall, verdictCall}
-use Rattle.book.proofs.Promises.{add-back, total-asks, far-asks, verdict-asks}
-use Rattle.demands.specs.History.{Upon, OnlyAsks, Good, otherwise}
+use Rattle.book.specs.declared.Ran.{Ran}
+use Rattle.book.specs.Calls.{addCall, runCall, totalCall, howFarCall, verdictCall}
+use Rattle.book.proofs.Promises.{add-back, run-back, total-asks, far-asks, verdict-asks}
+use Rattle.demands.specs.History.{Good, otherwise}
 
 module _ (book : Book) (ring items : List ℕ) (good : Good book ring items) where
   -- a call that only asks, whatever it gives
@@ -19,13 +20,22 @@ module _ (book : Book) (ring items : List ℕ) (good : Good book ring items) whe
   asked call same =
       otherwise book ring items good (seenAs (λ r. book) call) (record { hands-back = λ number. refl; lent-is = same .1 }) (inr (refl, same .0))
 
+  -- a call that is refused and hands the record back, wherever its result holds it
+  refused : {Result : Type 0} (recordIn : Result → Book) (call : Call Result (List ℕ))
+      → ((number : ℕ) → recordIn (call .back number) ≡ book) × (call .lent ≡ ring) → (refusalOf call ≡ 0 → ⊥)
+      → Good (resultOf (seenAs recordIn call)) (leftOf (seenAs recordIn call)) items
+  refused recordIn call back some =
+      otherwise book ring items good (seenAs recordIn call) (record { hands-back = back .0; lent-is = back .1 }) (inl some)
+
   pub after-refused-item : (item : ℕ) → (refusalOf (addCall book ring item) ≡ 0 → ⊥)
       → Good (resultOf (seenAs (λ (r : Updated). r .book) (addCall book ring item)))
       (leftOf (seenAs (λ (r : Updated). r .book) (addCall book ring item))) items
-  after-refused-item item refused =
-      let back = add-back book ring item in
-      otherwise book ring items good (seenAs (λ (r : Updated). r .book) (addCall book ring item))
-      (record { hands-back = back .0; lent-is = back .1 }) (inl refused)
+  after-refused-item item = refused (λ (r : Updated). r .book) (addCall book ring item) (add-back book ring item)
+
+  pub after-refused-run : (counts : List ℕ) → (refusalOf (runCall book ring counts) ≡ 0 → ⊥)
+      → Good (resultOf (seenAs (λ (r : Ran). r .book) (runCall book ring counts)))
+      (leftOf (seenAs (λ (r : Ran). r .book) (runCall book ring counts))) items
+  after-refused-run counts = refused (λ (r : Ran). r .book) (runCall book ring counts) (run-back book ring counts)
 
   pub after-total : (window : ℕ) → Good (resultOf (seenAs (λ r. book) (totalCall book ring window))) (leftOf (seenAs (λ r. book) (totalCall book ring window))) items
   after-total window = asked (totalCall book ring window) (total-asks book ring window)

@@ -10,3 +10,4 @@ pub mod Demand3
 pub mod VerdictMeans
 pub mod Quotients
 pub mod RunFromOpening
+pub mod RunsKeepGood

@@ -1,7 +1,7 @@
 -- A run from an opening (promises 2.4, B.3): an opening begins one, and items that are accepted, and calls that are refused or only ask, go on
 -- with it; it is a good book; and each number of its record and each byte of its ring is known.
 -- Assumes nothing.
-use Prim.Native.Nat.{ℕ, zero, suc, _+_, _-_, _*_, _/_, _%_, _≤_, _<_, _^_, min}
+use Prim.Native.Nat.{ℕ, zero, suc, _+_, _*_, _/_, _%_, _≤_, _<_, _^_, min}
 use native.Mathlib.Nat.{mod-eq-of-lt, div-eq-of-lt, mul-add-mod-self-left, mul-add-div, zero-mod, add-zero}
 use native.Mathlib.Omega.{arith}
 use mathlib.Core.List.{List, [], _∷_}
@@ -11,36 +11,21 @@ use lib.ListN.{length, getD, drop}
 use Rattle.bits.specs.Row.{bits}
 use Rattle.bits.specs.Bytes.{Bytes}
 use Rattle.refusals.specs.Call.{Call, refusalOf, resultOf, leftOf}
-use Rattle.ring.specs.Slot.{written, cleared}
-use Rattle.ring.specs.Lent.{Lent}
-use Rattle.ring.specs.Newest.{newest}
+use Rattle.ring.specs.Slot.{cleared}
 use Rattle.ring.proofs.Promises.{cleared-rest, cleared-tail, bytes-cleared, tail-stays, rest-stays-drop, bytes-written}
 use Rattle.book.specs.declared.Book.{Book}
 use Rattle.book.specs.declared.Updated.{Updated}
-use Rattle.book.specs.Derived.{fieldWidth, slotCount, bytesNeeded}
+use Rattle.book.specs.Derived.{fieldWidth, slotCount}
 use Rattle.book.specs.Record.{blockOf, slotsOf, widthOf, bytesOf, heldIn, opened}
 use Rattle.book.specs.Sound.{Ranges, Usable}
 use Rattle.book.specs.Adding.{quotientOf, slotAfter, added, addedRing}
 use Rattle.book.specs.Calls.{openCall, addCall}
-use Rattle.book.proofs.Promises.{block-low, slots-low, book-lent, bytes-needed, open-known, open-gives, add-known, add-taken, add-gives, adding-cases, quotient-in, slot-after-mod}
+use Rattle.book.proofs.Promises.{block-low, slots-low, book-lent, bytes-needed, open-known, open-gives, add-known, add-taken, add-gives, adding-cases, SameNumbers, added-same, quotient-in, slot-after-mod}
 use Rattle.demands.specs.History.{Upon, OnlyAsks, Good, start, adding, sumOf, older}
 use Rattle.demands.specs.RunFromOpening.{replayed, replayedRing, UpTo, FromOpening, RecordFollows, RingFollows}
-use Rattle.demands.proofs.Invariant.{Invariant}
 use Rattle.demands.proofs.InvariantKept.{shifted, Moved, opened-keeps, added-keeps}
 use Rattle.demands.proofs.GoodInduction.{nothing-changes}
 use Rattle.demands.proofs.GoodUsable.{good-usable}
-
--- adding leaves L, n and D
-record SameNumbers (book book′ : Book) : Type 0 where
-  bound-same : book′ .bound ≡ book .bound
-  length-same : book′ .length ≡ book .length
-  tolerance-same : book′ .tolerance ≡ book .tolerance
-
-added-same : (book : Book) (ring : List ℕ) (item : ℕ) → SameNumbers book (added book item)
-added-same book ring item =
-    adding-cases (λ b r. SameNumbers book b) book ring item
-    (λ closes. record { bound-same = refl; length-same = refl; tolerance-same = refl })
-    (λ more. record { bound-same = refl; length-same = refl; tolerance-same = refl })
 
 module _ (bound n tolerance : ℕ) (lent : List ℕ) where
   -- RUNS. An opening that is taken begins one
@@ -55,7 +40,7 @@ module _ (bound n tolerance : ℕ) (lent : List ℕ) where
   unfolding replayed
   replayed-same [] = record { bound-same = refl; length-same = refl; tolerance-same = refl }
   replayed-same (item ∷ items) =
-      let s = added-same (replayed bound n tolerance items) [] item in
+      let s = added-same (replayed bound n tolerance items) item in
       let r = replayed-same items in
       record {
         bound-same = s .bound-same ∙ r .bound-same;

@@ -20,6 +20,7 @@ OnlyAsks book ring call = (call .given ≡ book) × (call .left ≡ ring)
 
 -- Good book ring items: the record and the ring as the last call left them, and all accepted items, the newest first.
 -- It begins with an opening that is not refused, and goes on with items that are accepted, and with any call that is refused or only asks.
+-- A run of counts needs no case of its own: it comes to its items, one by one.
 pub data Good : Book → List ℕ → List ℕ → Type 0 where
   start : (bound n tolerance : ℕ) (lent : List ℕ) → refusalOf (openCall bound n tolerance lent) ≡ 0
       → Good (resultOf (openCall bound n tolerance lent) .book) (leftOf (openCall bound n tolerance lent)) []
@@ -27,6 +28,11 @@ pub data Good : Book → List ℕ → List ℕ → Type 0 where
       → Good (resultOf (addCall book ring item) .book) (leftOf (addCall book ring item)) (item ∷ items)
   otherwise : (book : Book) (ring items : List ℕ) → Good book ring items → (call : Call Book (List ℕ)) → Upon book ring call
       → (refusalOf call ≡ 0 → ⊥) ⊎ OnlyAsks book ring call → Good (resultOf call) (leftOf call) items
+
+-- all accepted items after a run of counts: the last of the counts is the newest
+unfoldable pub afterRun : List ℕ → List ℕ → List ℕ
+afterRun [] items = items
+afterRun (count ∷ later) items = afterRun later (count ∷ items)
 
 -- the sum of a list of items
 unfoldable pub sumOf : List ℕ → ℕ

@@ -13,11 +13,12 @@ use Rattle.ring.specs.Calls.{clearCall, readCall, writeCall, sumCall}
 use Rattle.ring.specs.declared.Answer.{Answer}
 use Rattle.ring.proofs.Demand1 as ring-calls
 use Rattle.book.specs.declared.Updated.{Updated}
+use Rattle.book.specs.declared.Ran.{Ran}
 use Rattle.book.specs.declared.Figure.{Figure}
 use Rattle.book.specs.declared.Window.{Window}
 use Rattle.book.specs.declared.shape.Shaped.{Shaped}
 use Rattle.book.specs.Shape.{shapeCall}
-use Rattle.book.specs.Calls.{openCall, addCall, totalCall, howFarCall, verdictCall}
+use Rattle.book.specs.Calls.{openCall, addCall, runCall, totalCall, howFarCall, verdictCall}
 use Rattle.book.proofs.Promises as book-calls
 use Rattle.image.specs.declared.Numbers.{Numbers}
 use Rattle.image.specs.Reading.{headerCall}
@@ -35,6 +36,7 @@ use Rattle.uprzezar.proofs.of_ring.uprzezar_ring_sum.Reads as sum-reads
 use Rattle.uprzezar.proofs.of_book.uprzezar_shape.Reads as shape-reads
 use Rattle.uprzezar.proofs.of_book.uprzezar_open.Reads as open-reads
 use Rattle.uprzezar.proofs.of_book.uprzezar_add.Reads as add-reads
+use Rattle.uprzezar.proofs.of_book.uprzezar_run.Reads as run-reads
 use Rattle.uprzezar.proofs.of_book.uprzezar_total.Reads as total-reads
 use Rattle.uprzezar.proofs.of_book.uprzezar_far.Reads as far-reads
 use Rattle.uprzezar.proofs.of_book.uprzezar_verdict.Reads as verdict-reads
@@ -64,7 +66,7 @@ module _ (κs : Lfts 0) where
   pub shape-promised : Promised (shape-reads.Post κs) (λ r. r) (λ a e. tt) (λ a. shapeCall (a .0) (a .1 .0) (a .1 .1 .0)) (λ (r : Shaped). r .refusal)
   shape-promised = book-calls.derive-promised κs
 
--- … and the calls with a ring; the verdict is the book's verdict seen as numbers
+-- … the calls with a ring; the verdict is the book's verdict seen as numbers …
 module _ (κs : Lfts 1) where
   pub open-promised : Promised (open-reads.Post κs) (λ r. r) (λ a e. now (e .1 .1 .1 .0))
       (λ a. openCall (a .0) (a .1 .0) (a .1 .1 .0) (now (a .1 .1 .1 .0))) (λ (r : Updated). r .refusal)
@@ -87,6 +89,12 @@ module _ (κs : Lfts 1) where
   verdict-promised =
       seen-promised _ _ _ asNumbers (λ a. verdictCall (a .0) (now (a .1 .0)) (a .1 .1 .0) (a .1 .1 .1 .0))
       (λ a r e p. (p, book-calls.verdict-leaves _ _ _ _)) _ (λ a. book-calls.verdict-tells _ _ _ _ (λ verdict. refl) (λ number. refl))
+
+-- … and a run of counts, for which they are lent beside the ring
+module _ (κs : Lfts 2) where
+  pub run-promised : Promised (run-reads.Post κs) (λ r. r) (λ a e. now (e .1 .0))
+      (λ a. runCall (a .0) (now (a .1 .0)) (now (a .1 .1 .0))) (λ (r : Ran). r .refusal)
+  run-promised = book-calls.run-promised κs
 
 -- IMAGES. The raster's place is the header's answer seen in another form
 module _ (κs : Lfts 1) where

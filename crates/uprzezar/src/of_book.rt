@@ -1,13 +1,14 @@
 // The book's calls.
 ghost use mathlib.Core.Path.{_≡_};
 ghost use Rattle.refusals.specs.Call.{resultOf, leftOf};
-ghost use Rattle.book.specs.Calls.{openCall, addCall, totalCall, howFarCall, verdictCall};
+ghost use Rattle.book.specs.Calls.{openCall, addCall, runCall, totalCall, howFarCall, verdictCall};
 ghost use Rattle.book.specs.Shape.{shapeCall};
 ghost use Rattle.uprzezar.specs.Crossing.{asNumbers};
 use crate::Ruled;
 use crate::crossing;
 use book::Book;
 use book::Figure;
+use book::Ran;
 use book::Updated;
 use book::Window;
 use book::shape::Shaped;
@@ -34,6 +35,14 @@ pub extern "C" fn uprzezar_add(book: Book, ring: &mut [u8], item: u64) -> Update
     ensures { λ r. ⌜ (r ≡ resultOf (addCall book (now (ring .entry)) item)) × (now (ring .exit) ≡ leftOf (addCall book (now (ring .entry)) item)) ⌝ }
 {
     book::add(book, ring, item)
+}
+
+// Adds a run of counts to a book, all of them or none.
+#[no_mangle]
+pub extern "C" fn uprzezar_run(book: Book, ring: &mut [u8], counts: &[u64]) -> Ran
+    ensures { λ r. ⌜ (r ≡ resultOf (runCall book (now (ring .entry)) (now (counts .entry)))) × (now (ring .exit) ≡ leftOf (runCall book (now (ring .entry)) (now (counts .entry)))) ⌝ }
+{
+    book::run(book, ring, counts)
 }
 
 // The figure for the last `window` items.

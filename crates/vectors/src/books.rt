@@ -4,6 +4,7 @@ use crate::reading::bytes_in;
 use crate::reading::number_in;
 use crate::reading::number_or_0;
 use crate::reading::record_in;
+use crate::reading::row_in;
 use crate::text;
 use book::Book;
 use book::Updated;
@@ -57,12 +58,17 @@ fn arguments(line: &[u8], ring: &mut [u8]) -> Asked
     }
 }
 
+// The record and the ring, behind what stands before them.
+fn record_and_ring(b: Book, ring: &[u8], out: &mut [u8], at: usize) -> usize {
+    let behind = text::record(out, at, b);
+    text::bytes(out, behind, ring)
+}
+
 // The refusal, the record and the ring.
 fn updated(r: Updated, ring: &[u8], out: &mut [u8]) -> usize {
     let at = text::refusal(out, r.refusal);
     let b = r.book;
-    let behind = text::record(out, at, b);
-    text::bytes(out, behind, ring)
+    record_and_ring(b, ring, out, at)
 }
 
 // The refusal, then c, s, z, b and B.
@@ -86,6 +92,15 @@ fn added(q: Asked, ring: &mut [u8], out: &mut [u8]) -> usize {
     let b = q.book;
     let r = book::add(b, ring, q.third);
     updated(r, ring, out)
+}
+
+// The refusal, the place, the record and the ring.
+fn ran(b: Book, ring: &mut [u8], counts: &[u64], out: &mut [u8]) -> usize {
+    let r = book::run(b, ring, counts);
+    let at = text::refusal(out, r.refusal);
+    let behind = text::next(out, at, r.place);
+    let after = r.book;
+    record_and_ring(after, ring, out, behind)
 }
 
 fn totalled(q: Asked, ring: &[u8], out: &mut [u8]) -> usize {
@@ -150,6 +165,21 @@ fn open(line: &[u8], ring: &mut [u8], out: &mut [u8]) -> usize {
     0
 }
 
+// `record ring counts`. No other call takes counts, so their array is this one's own.
+fn run(line: &[u8], ring: &mut [u8], out: &mut [u8]) -> usize {
+    let mut counts = [0u64; 16384];
+    let entry = record_in(line);
+    let taken = bytes_in(line, 2, ring);
+    let row = row_in(line, 3, &mut counts);
+    let b = entry.book;
+    let n = taken.size;
+    let m = row.size;
+    if entry.ok && taken.ok && row.ok {
+        return ran(b, &mut ring[..n], &counts[..m], out);
+    }
+    0
+}
+
 fn called(line: &[u8], q: Asked, ring: &mut [u8], out: &mut [u8]) -> usize {
     if calls(line, b"add", 3) {
         return added(q, ring, out);
@@ -172,6 +202,9 @@ pub(crate) fn answer(line: &[u8], ring: &mut [u8], out: &mut [u8]) -> usize {
     }
     if calls(line, b"open", 4) {
         return open(line, ring, out);
+    }
+    if calls(line, b"run", 3) {
+        return run(line, ring, out);
     }
     let q = arguments(line, ring);
     let n = q.bytes;

@@ -9,11 +9,12 @@ mod rings;
 mod text;
 
 fn main() {
-    // A line with three fields of 32,768 bytes has less than 200,000 characters. One that fills the buffer cannot be read.
-    let mut buf = [0u8; 262144];
+    // The longest line to be read: a record, a ring of 32,768 bytes and 16,384 counts of 20 digits, less than 410,000 characters. One with
+    // three fields of 32,768 bytes has less than 200,000. A line that fills the buffer cannot be read.
+    let mut buf = [0u8; 524288];
     let mut first = [0u8; 32768];
     let mut second = [0u8; 32768];
-    // The longest answer: a refusal, a record of seven numbers, 32,768 bytes as hex, and the line's end.
+    // The longest answer: a refusal, a place, a record of seven numbers, 32,768 bytes as hex, and the line's end.
     let mut out = [0u8; 65792];
     input::run(&mut buf, &mut first, &mut second, &mut out);
 }

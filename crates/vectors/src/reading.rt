@@ -1,7 +1,8 @@
-// Numbers, records and bytes from their text.
+// Numbers, records, bytes and rows of counts from their text.
 use crate::fields::count;
 use crate::fields::field;
 use crate::fields::part;
+use crate::fields::place;
 use book::Book;
 ghost use Prim.Native.Nat.{_≤_, _*_};
 ghost use mathlib.Core.Path.{_≡_};
@@ -14,7 +15,7 @@ pub(crate) struct Parsed {
     pub value: u64,
 }
 
-// How many bytes were read, if the text is bytes that fit.
+// How many bytes, or counts, were read, if the text is such that fit.
 pub(crate) struct Size {
     pub ok: bool,
     pub size: usize,
@@ -180,4 +181,36 @@ pub(crate) fn bytes_in(line: &[u8], at: usize, out: &mut [u8]) -> Size
     ensures { λ r. ⌜ Counts (r .size) (now (out .exit)) ⌝ }
 {
     bytes(field(line, at), out)
+}
+
+// Counts joined by commas, `-` for none, into the slice; more than fit into it are not taken. Behind a comma a count has to come.
+fn row(text: &[u8], out: &mut [u64]) -> Size
+    ensures { λ r. ⌜ Counts (r .size) (now (out .exit)) ⌝ }
+{
+    if is_dash(text) {
+        return Size { ok: true, size: 0 };
+    }
+    let mut size = 0;
+    let mut at = 0;
+    while at <= text.len() {
+        let end = place(text, at, b',');
+        let n = number(&text[at..end]);
+        if !n.ok {
+            return Size { ok: false, size: 0 };
+        }
+        if size >= out.len() {
+            return Size { ok: false, size: 0 };
+        }
+        out[size] = n.value;
+        size += 1;
+        at = end + 1;
+    }
+    Size { ok: true, size }
+}
+
+// The row of counts in a field of the line.
+pub(crate) fn row_in(line: &[u8], at: usize, out: &mut [u64]) -> Size
+    ensures { λ r. ⌜ Counts (r .size) (now (out .exit)) ⌝ }
+{
+    row(field(line, at), out)
 }

@@ -9,7 +9,6 @@ use mathlib.Core.List.{List, [], _∷_, _++_}
 use mathlib.Core.Logic.{_⊎_, inl, inr}
 use mathlib.Core.Path.{_≡_, refl, sym, ap, subst, _∙_}
 use denote.Ref.{RefT}
-use lib.ListN.{length}
 use Rattle.refusals.specs.Numbers.{wrongByte, imagesDiffer}
 use Rattle.refusals.specs.First.{Fault, _gives_, isRefusal, firstOf}
 use Rattle.refusals.specs.Call.{Call, refusalOf, resultOf, leftOf}
@@ -18,11 +17,9 @@ use Rattle.refusals.proofs.Calls.{passed-on-numbered}
 use Rattle.book.specs.declared.Book.{Book}
 use Rattle.book.specs.declared.Updated.{Updated}
 use Rattle.book.specs.declared.Figure.{Figure}
-use Rattle.book.specs.Sound.{Sound, Usable}
 use Rattle.book.specs.Adding.{added, addedRing}
 use Rattle.book.specs.Calls.{addCall, totalCall}
-use Rattle.book.proofs.Promises.{add-known, add-gives, total-taken, total-gives, adding-cases, open-sound, closed-sound}
-use Rattle.demands.proofs.GoodUsable.{added-room}
+use Rattle.book.proofs.Promises.{add-known, add-gives, added-usable, total-taken, total-gives}
 use Rattle.demands.proofs.Demand2.{demand-2}
 use Rattle.image.specs.Reading.{numbersOf}
 use Rattle.image.proofs.Promises.{refusal-range}
@@ -54,18 +51,7 @@ shown-taken : (state : State) (ring : List ℕ) (scored : Scored) (used refusal 
 shown-taken state ring scored used refusal none =
     shown-cases state ring scored used (λ t. t ≡ Refused refusal → ⊥) (λ taken e. refused-no-row (sym e)) (λ refused e. refused none)
 
--- after an item that is taken the record is a book still, with its ring …
-added-usable : (book : Book) (ring : List ℕ) (item : ℕ) → Usable book (length ring) → item ≤ book .bound
-    → Usable (added book item) (length (addedRing book ring item))
-added-usable book ring item usable small =
-    record {
-      sound =
-          adding-cases (λ b r. Sound b) book ring item (λ closes. closed-sound book (usable .sound) item small)
-          (λ more. open-sound book (usable .sound) item small more);
-      room = added-room book ring item usable small;
-    }
-
--- … so that the total for the window kept is not refused
+-- after an item that is taken the total for the window kept is not refused
 total-after : (book : Book) (ring : List ℕ) (item : ℕ) → refusalOf (addCall book ring item) ≡ 0
     → let call = addCall book ring item in resultOf (totalCall (resultOf call .book) (leftOf call) (resultOf call .book .kept)) .refusal ≡ 0
 total-after book ring item taken =

@@ -1,33 +1,25 @@
 -- `book::adding::add` meets its contract: the block stays open, or it closes and its quotient goes into the ring.
 -- Assumes nothing.
 use borrow.Author.Needs.{needs}
-use Prim.Native.Nat.{_+_, _*_, _/_, _≤_}
-use mathlib.Core.Path.{_∙_}
+use mathlib.Core.Path.{refl, ap, _∙_}
 use native.Mathlib.Omega.{arith}
 use denote.Ref.{now}
-use native.Mathlib.Nat.{div-mul-le-self}
+use Rattle.book.specs.declared.adding.Closed.{Closed}
+use Rattle.book.specs.Record.{recordWith}
 use Rattle.book.proofs.StepsInRange.{ready-lent, ready-head}
 use Rattle.book.proofs.AddingInTwoCases.{Takes, carry-fits, stays-open, quotient-fits, block-closes, ring-takes}
 use Rattle.book.proofs.adding.add.Statement.{statement}
 use Rattle.book.proofs.adding.add.Tie as tie
 
--- the start, from where kept is known; that place, from where the quotient goes into the ring; and that one, from where the record is made
+-- the start, from where kept is known; and that place, from where the block is closed
 abbrev start : tie.After-kept-more → tie.Start
 start c = c .before .before .before
 
-abbrev counted : tie.After-put-arg → tie.After-kept-more
-counted c = c .before .before .before .before .before
+abbrev counted : tie.After-close-arg → tie.After-kept-more
+counted c = c .before .before .before .before
 
-abbrev put-at : tie.After-struct-known5 → tie.After-put
-put-at c = c .before .before .before .before
-
-module _ (c : tie.Start) where
-  takes : Takes (c .args .book) (c .args .shape) (now (c .args .ring)) (c .args .item)
-  takes = record { ready = c .pre .0; small = c .pre .1 }
-
-  -- q·D, which is taken off, is at most the carry
-  taken-off : (c .args .book .carry + c .args .item) / c .args .book .tolerance * c .args .book .tolerance ≤ c .args .book .carry + c .args .item
-  taken-off = div-mul-le-self (c .args .book .carry + c .args .item) (c .args .book .tolerance)
+takes : (c : tie.Start) → Takes (c .args .book) (c .args .shape) (now (c .args .ring)) (c .args .item)
+takes c = record { ready = c .pre .0; small = c .pre .1 }
 
 add-carry : tie.Need-add-carry
 add-carry c = omega (arith, carry-fits (takes (c .before .before)))
@@ -47,24 +39,10 @@ returns c =
     let stays = stays-open (takes (start n)) (c .before .if1 .taken) (n .kept-more .ensures) in
     (c .with .ensures ∙ stays .0, stays .1)
 
-div-quotient : tie.Need-div-quotient
-div-quotient c = search needs
-
-put-requires : tie.Need-put-requires
-put-requires c κs =
+close-requires : tie.Need-close-requires
+close-requires c κs =
     let k = takes (start (counted c)) in
-    (ready-lent (k .ready), ready-head (k .ready), quotient-fits k (c .before .before .if1 .left))
-
-slot-after-requires : tie.Need-slot-after-requires
-slot-after-requires c κs = ready-head (start (counted (c .before .before .before)) .pre .0)
-
-mul-with : tie.Need-mul-with
-mul-with c =
-    let s = start (counted (put-at c .before)) in
-    omega (arith, taken-off s, carry-fits (takes s))
-
-sub-with : tie.Need-sub-with
-sub-with c = taken-off (start (counted (put-at c .before)))
+    (ready-lent (k .ready), ready-head (k .ready), k .ready .usable .sound .ranges .tolerance-low, quotient-fits k (c .before .if1 .left))
 
 with-requires-2 : tie.Need-with-requires-2
 with-requires-2 c κs = search needs
@@ -74,12 +52,13 @@ same-length c = search needs
 
 returns-2 : tie.Need-returns-2
 returns-2 c =
-    let p = put-at (c .before) in
-    let n = counted (p .before) in
+    let closed = c .before .before .before in
+    let n = counted (closed .before) in
     let k = takes (start n) in
-    let full = p .before .before .before .if1 .left in (
-      c .with2 .ensures ∙ block-closes k full (n .kept-more .ensures) (c .before .before .slot-after .ensures),
-      p .put .ensures ∙ ring-takes k full,
+    let full = closed .before .before .if1 .left in (
+      c .with2 .ensures ∙ ap (λ (r : Closed). recordWith (start n .args .book) (r .carry) 0 (n .kept-more .result) (r .head)) (closed .close .ensures .0)
+          ∙ block-closes k full (n .kept-more .ensures) refl,
+      closed .close .ensures .1 ∙ ring-takes k full,
     )
 
 pub add-spec : {M : Type 1} → statement M
@@ -91,11 +70,7 @@ add-spec =
     add-phase
     with-requires
     returns
-    div-quotient
-    put-requires
-    slot-after-requires
-    mul-with
-    sub-with
+    close-requires
     with-requires-2
     same-length
     returns-2)
