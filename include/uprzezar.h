@@ -202,7 +202,10 @@ uprzezar_window uprzezar_far(uprzezar_book book, const uint8_t *ring, size_t rin
 /* The verdict for a window and an amount, with the window's figure. Refusals: 8, 4, 6, 5. */
 uprzezar_ruled uprzezar_verdict(uprzezar_book book, const uint8_t *ring, size_t ring_bytes, uint64_t window, uint64_t amount);
 
-/* Images: binary PGM, one byte a pixel. */
+/* Images: binary PGM, one byte a pixel. Behind `P5`, and before the single white byte behind maxval that delimits the raster, a comment is
+   ignored, even inside a number: the bytes from `#` through the next CR or LF. That line end is neither white space nor the delimiter, so
+   that `P5#c`, LF, `2` is refused with 11. A `#` behind the delimiter is a pixel. Where nothing before it was refused, a comment that runs past
+   the first 24,576 bytes is refused with 13, and otherwise one that runs past the bytes lent with 14. */
 
 /* The numbers of the image at the start of the bytes; bytes behind it are allowed. Refusals: 11 to 14 in the order of the header's bytes,
    then 13, 14, 15 for the raster. */

@@ -13,6 +13,7 @@ import sys
 from pathlib import Path
 
 import book_calls
+import comment_calls
 import image_calls
 import model
 import other_lines
@@ -28,7 +29,7 @@ HOME = Path(__file__).resolve().parent.parent / "crates" / "vectors"
 def sections():
     """Every section's name and calls, in order. Random ones have a seed each, so that a change in one leaves the others as they are."""
     yield "lines of the format", []
-    for part in (paper_cases, ring_calls, book_calls, run_calls, image_calls, score_calls, other_lines):
+    for part in (paper_cases, ring_calls, book_calls, run_calls, image_calls, comment_calls, score_calls, other_lines):
         yield from part.sections()
 
 

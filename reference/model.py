@@ -273,6 +273,8 @@ def verdict(r, ring, w, v):
 
 WHITE = b" \t\r\n"
 DIGITS = b"0123456789"
+COMMENT = b"#"
+LINE_END = b"\r\n"
 NO_IMAGE = (0, 0, 0, 0, 0, 0)
 
 
@@ -287,13 +289,26 @@ class Header:
         self.data = data
         self.at = 0
 
-    def need(self, allowed):
-        """The next byte, or why there is none: past the limit, past the slice, or not allowed here."""
+    def here(self):
+        """The byte that stands here, or why there is none: past the limit, or past the slice."""
         if self.at >= IMAGE_LIMIT:
             raise Refused(13)
         if self.at >= len(self.data):
             raise Refused(14)
-        byte = self.data[self.at]
+        return self.data[self.at]
+
+    def pass_comments(self):
+        """Goes on behind the comments that stand here: each is a `#` and what follows it through the next CR or LF."""
+        while self.here() in COMMENT:
+            while self.here() not in LINE_END:
+                self.at += 1
+            self.at += 1
+
+    def need(self, allowed):
+        """The next byte that is in no comment, if it is allowed here; before the two bytes of `P5` are taken there are no comments."""
+        if self.at >= 2:
+            self.pass_comments()
+        byte = self.here()
         if byte not in allowed:
             raise Refused(11)
         self.at += 1

@@ -65,6 +65,21 @@ def unlike_images(rng):
         yield call("score", 600, 12, other, rng.choice(others))
 
 
+def commented_scores():
+    """The worked pair with comments in one header, in the other and in both, of different lengths; then comments for which one is refused."""
+    dark = b"P5 #c\n2 2 255\n" + PIXELS[0]
+    lit = b"P5\r# a longer one\r2#\n 2\n255#d\r\n" + PIXELS[1]
+    for first, second in ((dark, LIT), (DARK, lit), (dark, lit), (lit, dark)):
+        yield call("score", 600, 12, first, second)
+    split = b"P5 2#c\n2 1 255\n"  # 22 x 1
+    yield call("score", 600, 12, split + bytes(22), b"P5 22 1 255\n" + b"\x0d" * 22)
+    yield call("score", 600, 12, DARK, split + bytes(22))
+    no_white_byte = b"P5#c\n2 2 255\n" + PIXELS[1]
+    yield call("score", 600, 12, DARK, no_white_byte)
+    yield call("score", 600, 12, no_white_byte, b"P5 #")
+    yield call("score", 600, 12, dark, b"P5 2 2 255#c" + PIXELS[1])
+
+
 def random_scores(rng, count):
     for _ in range(count):
         width, height = rng.randint(1, 8), rng.randint(1, 8)
@@ -96,5 +111,6 @@ def sections():
     yield "scores", scores()
     yield "refused scores", refused_scores()
     yield "scores of unlike images", unlike_images(random.Random(15))
+    yield "scores of images with comments", commented_scores()
     yield "scores: any images, whole and damaged", random_scores(random.Random(16), 150)
     yield "scores: large images", large_scores()

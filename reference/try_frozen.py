@@ -78,12 +78,46 @@ def damaged(rng, data):
     return data[:at] + bytes([rng.randrange(256)]) + data[at + 1 :]
 
 
+# Three images of one size whose comments have several places, lengths and ends; pixels of the second and the third look like comments.
+COMMENTED = [
+    b"P5\n# made by a viewer\n3 2\n255\n" + bytes(6),
+    b"P5#a\r 3#b\n#\r\n2 2#c\n55# the CR ends it, the LF delimits\r\n" + b"#\n#\r12",
+    b"P5 3# no pixel yet: 1 2 3\r 2\t#\n#\n255#d\n " + b"# c\n\0\xff",
+]
+
+
+def comment(rng, length):
+    """A comment with so many bytes between its `#` and its line end."""
+    return b"#" + bytes(rng.choice(b" #09Pcz\t\0\xff") for _ in range(length)) + rng.choice((b"\n", b"\r"))
+
+
+def commented(rng, data, longest):
+    """The image with up to three comments in its header; they are put in from its end on, so that none stands in another."""
+    delimiter = data.index(b"255\n") + 3
+    for place in sorted(rng.choices(range(2, delimiter + 1), k=rng.randrange(4)), reverse=True):
+        data = data[:place] + comment(rng, rng.randrange(longest)) + data[place:]
+    return data
+
+
+def commented_streams(rng):
+    """Short comments and long ones; then images at the limit, comments without end and a `#` between images."""
+    yield b"".join(commented(rng, data, 20) for data in frames(rng, 200, 9, 7))
+    yield b"".join(commented(rng, data, 1500) for data in frames(rng, 40, 160, 120))
+    filled = b"P5 1 1 255#" + b"c" * 24562 + b"\r\n"
+    yield filled + b"#" + filled + b"\x07" + filled + b"\xff"
+    yield filled + b"#" + filled.replace(b"\r", b"c\r") + b"\x07"
+    three = b"".join(COMMENTED)
+    yield three + b"P5 3 2#" + b"c" * 30000 + b"\n 255\n" + bytes(6)
+    yield three + b"P5 3 2#" + b"c" * 20000
+    yield three + b"# no comment\n" + three
+
+
 def held_open(rng):
     """With the pipe held open, each row comes within a second of its frame's last byte."""
     program = subprocess.Popen(COMMAND, stdin=subprocess.PIPE, stdout=subprocess.PIPE, bufsize=0)
     program.stdout.readline()
     longest = 0
-    for data in frames(rng, 20, 160, 120):
+    for data in (commented(rng, data, 500) for data in frames(rng, 20, 160, 120)):
         program.stdin.write(data[:-1])
         time.sleep(0.02)
         start = time.monotonic()
@@ -196,6 +230,9 @@ def main():
     hold("cut at each of the first 40 bytes", [worked[:k] for k in range(1, 41)])
     hold("cut anywhere", [short[: rng.randrange(len(short))] for _ in range(100)])
     hold("damaged", [damaged(rng, short) for _ in range(100)])
+    three = b"".join(COMMENTED)
+    hold("commented, cut at every byte", [three[:k] for k in range(1, len(three) + 1)])
+    hold("commented", list(commented_streams(rng)))
     hold("another size", [b"".join(frames(rng, 3, 9, 7)) + b"".join(frames(rng, 3, 7, 9))])
     hold("largest image", [b"P5 1024 23 255 " + bytes(1024 * 23) + b"P5 1024 24 255 " + bytes(1024 * 24)])
     hold(f"{LONG} frames", [b"".join(frames(rng, LONG, 16, 12))])

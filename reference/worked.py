@@ -1,4 +1,4 @@
-"""Figures worked by hand, as calls and answers: the cases A to G of docs/SCOPE.md, and the lines of the vectors' format.
+"""Figures worked by hand, as calls and answers: the cases A to G of docs/SCOPE.md, comments in headers, and the lines of the vectors' format.
 
 The model is held to them each time the vectors are made. They stand first in the section of their name.
 """
@@ -6,6 +6,15 @@ The model is held to them each time the vectors are made. They stand first in th
 import model
 
 A = "5,6,10,13,1,6,0 40"
+# The program's first two images, with comments of different places and lengths.
+DARK = b"P5 #c\n2 2 255\n" + bytes(4)
+LIT = b"P5# a longer one\r 2 2 255#\n\n" + bytes([20, 12, 13, 0])
+
+
+def pgm(*images):
+    """Images with the answers to them; of a refused one the number alone is given."""
+    return [(f"pgm {data.hex()}", f"{answer} 0 0 0 0 0 0" if isinstance(answer, int) else answer) for data, answer in images]
+
 
 FIGURES = {
     "lines of the format": [
@@ -70,6 +79,49 @@ FIGURES = {
         (f"pgm {b'P5 1024 '.hex()}", "14 0 0 0 0 0 0"),
         (f"pgm {b'P5 1 1 256 '.hex()}", "12 0 0 0 0 0 0"),
         (f"pgm {b'P5 1 1 255 '.hex()}", "14 0 0 0 0 0 0"),
+    ],
+    # A comment before a number; behind P5, without a white byte and with one; before and in P5. Behind the delimiter it is a pixel.
+    "images: comments": pgm(
+        (b"P5 #c\n1 1 255 \x07", "0 1 1 255 15 14 1"),
+        (b"P5#c\n2 2 255\n\x07\x07\x07\x07", 11),
+        (b"P5#c\n 2 2 255\n\x07\x07\x07\x07", "0 2 2 255 18 14 4"),
+        (b"P5#", 14),
+        (b"P#", 11),
+        (b"#", 11),
+        (b"P5 1 1 255 #", "0 1 1 255 12 11 1"),
+        (b"P5 1 1 34 #", 15),
+    ),
+    # CR ends the comment and LF delimits; LF ends it and nothing delimits; a digit goes on.
+    "images: comments and their ends": pgm(
+        (b"P5 1 1 255#c\r\n\x07", "0 1 1 255 15 14 1"),
+        (b"P5 1 1 255#c\n\x07", 11),
+        (b"P5 1 1 255#c\n7 \x07", 12),
+        (b"P5 1 1 255#c\n", 14),
+    ),
+    # 12 x 1; 1 x 2; 1025, judged at the white byte behind the comment and not at the comment.
+    "images: comments and numbers": pgm(
+        (b"P5 1#c\n2 1 255\n" + bytes(12), "0 12 1 255 27 15 12"),
+        (b"P5 1#c\n 2 255\n" + bytes(2), "0 1 2 255 16 14 2"),
+        (b"P5 10#c\n25 1 255 ", 12),
+        (b"P5 1025#c", 14),
+        (b"P5 1025#c\n", 14),
+        (b"P5 1025#c\nx", 11),
+        (b"P5 1025#c\n x", 12),
+    ),
+    # Comments without end in slices of 24,575 and 24,576 bytes; a line end as byte 24,574, then the delimiter and one pixel; one byte more.
+    "images: comments at the limit": pgm(
+        (b"P5#" + b"c" * 24572, 14),
+        (b"P5#" + b"c" * 24573, 13),
+        (b"P5 1 1 255#" + b"c" * 24562 + b"\n \x07", "0 1 1 255 24576 24575 1"),
+        (b"P5 1 1 255#" + b"c" * 24563 + b"\n \x07", 13),
+        (b"P5 24 1023 255#ccccccc\n\n", 14),
+        (b"P5 24 1023 255#cccccccc\n\n", 13),
+    ),
+    # Two pixels have changed, wherever the rasters start.
+    "scores of images with comments": [
+        (f"score 600 12 {DARK.hex()} {LIT.hex()}", "0 2"),
+        (f"score 600 12 {DARK.hex()} {b'P5#c'.hex()}", "14 0"),
+        (f"score 600 12 {b'P#'.hex()} {DARK.hex()}", "11 0"),
     ],
     # The numbers of cases A to D and of the program's setting, all five of each.
     "shapes": [

@@ -1,5 +1,5 @@
-/* Case A of docs/SCOPE.md, through the header, item by item and as one run, and the small pictures of its program; the shapes of its book
-   and of the box's. */
+/* Case A of docs/SCOPE.md, through the header, item by item and as one run, the small pictures of its program, and headers with comments;
+   the shapes of its book and of the box's. */
 #include "../include/uprzezar.h"
 
 #include <inttypes.h>
@@ -83,15 +83,30 @@ static void runs(void) {
     printf("the byte behind the ring: %02x\n", ring[1]);
 }
 
+static void image(const uint8_t *bytes, size_t count) {
+    uprzezar_numbers n = uprzezar_header(bytes, count);
+    printf("image: refusal %u, %zu x %zu, maxval %zu, raster from %zu, used %zu\n", n.refusal, n.width, n.height, n.maxval, n.start,
+           n.used);
+}
+
+/* The bytes of a text without the 0 behind it. */
+#define IMAGE(text) image((const uint8_t *)(text), sizeof(text) - 1)
+
+static void comments(void) {
+    IMAGE("P5\n# c\n2 2\n255\n....");
+    IMAGE("P5\n1#c\n2 1 255 #...........");
+    IMAGE("P5\n2 2\n255#c\r\n....");
+    IMAGE("P5#c\n2 2 255\n....");
+    IMAGE("P5\n2 2\n255# c");
+}
+
 static void pictures(void) {
     static const uint8_t one[] = "P5\n2 2\n255\n\0\0\0";
     static const uint8_t two[] = "P5 2 2 255 \024\014\015";
-    uprzezar_numbers n = uprzezar_header(one, sizeof one);
     uprzezar_raster_place p = uprzezar_raster(two, sizeof two);
     uprzezar_answer s = uprzezar_score(600, 12, one, sizeof one, two, sizeof two);
     uprzezar_answer cut = uprzezar_score(600, 12, one, sizeof one - 1, two, sizeof two);
-    printf("image: refusal %u, %zu x %zu, maxval %zu, raster from %zu, used %zu\n", n.refusal, n.width, n.height, n.maxval, n.start,
-           n.used);
+    image(one, sizeof one);
     printf("raster: refusal %u, %zu bytes from %zu\n", p.refusal, p.length, p.offset);
     printf("score: refusal %u, %" PRIu64 "; of an image cut short: refusal %u, %" PRIu64 "\n", s.refusal, s.value, cut.refusal, cut.value);
 }
@@ -112,6 +127,7 @@ int main(void) {
     book();
     runs();
     pictures();
+    comments();
     slots();
     return 0;
 }

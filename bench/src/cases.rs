@@ -168,19 +168,26 @@ fn book_cases(cases: &mut Vec<Case>, setting: &str, bound: u64, length: u64, tol
     });
 }
 
-/// A picture of 160 x 120 with pixels up to maxval.
-pub fn picture(seed: u64, maxval: u64) -> Vec<u8> {
+/// A picture of 160 x 120 with pixels up to maxval, and with this comment, or none, behind its first line.
+fn picture_with(comment: &str, seed: u64, maxval: u64) -> Vec<u8> {
     let mut chance = Chance::new(seed);
-    let mut image = format!("P5\n160 120\n{maxval}\n").into_bytes();
+    let mut image = format!("P5\n{comment}160 120\n{maxval}\n").into_bytes();
     image.extend((0..160 * 120).map(|_| chance.below(maxval + 1) as u8));
     image
 }
 
+/// A picture of 160 x 120 with pixels up to maxval.
+pub fn picture(seed: u64, maxval: u64) -> Vec<u8> {
+    picture_with("", seed, maxval)
+}
+
 fn picture_cases(cases: &mut Vec<Case>) {
-    for maxval in [255, 200] {
-        let (a, b) = (picture(1, maxval), picture(1, maxval));
+    let commented = picture_with("# made by a viewer\n", 1, 255);
+    let pictures = [("maxval 255", picture(1, 255)), ("maxval 200", picture(1, 200)), ("maxval 255, a comment", commented)];
+    for (what, image) in pictures {
+        let (a, b) = (image.clone(), image);
         cases.push(Case {
-            name: format!("header of 160 x 120, maxval {maxval}"),
+            name: format!("header of 160 x 120, {what}"),
             plain: repeated(move || image::header(black_box(&a)).map(|image| image.used)),
             proved: repeated(move || proved::header(black_box(&b))),
         });

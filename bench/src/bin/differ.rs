@@ -263,6 +263,30 @@ fn numeral(chance: &mut Chance, into: &mut Vec<u8>, value: u64) {
     into.extend(value.to_string().bytes());
 }
 
+/// `#`, bytes by chance (half of them such as a header has) and a line end.
+fn comment(chance: &mut Chance) -> Vec<u8> {
+    let mut comment = b"#".to_vec();
+    for _ in 0..chance.below(2) * chance.below(40) {
+        let byte = if chance.one_in(2) { chance.pick(b"# \t059") } else { chance.next() as u8 };
+        if !matches!(byte, b'\r' | b'\n') {
+            comment.push(byte);
+        }
+    }
+    comment.push(chance.pick(b"\r\n"));
+    comment
+}
+
+/// Puts one comment or up to three into a header that ends with maxval, anywhere behind its first two bytes.
+fn put_comments(chance: &mut Chance, header: &mut Vec<u8>) {
+    let mut places: Vec<u64> = (0..1 + chance.below(3)).map(|_| 2 + chance.below(header.len() as u64 - 1)).collect();
+    // from the last place on, so that none comes to lie within another
+    places.sort_unstable();
+    for &place in places.iter().rev() {
+        let place = place as usize;
+        header.splice(place..place, comment(chance));
+    }
+}
+
 /// An image with these numbers, changed pixels of `like` where it has as many.
 fn picture(chance: &mut Chance, width: u64, height: u64, maxval: u64, like: &[u8]) -> Vec<u8> {
     let mut image = b"P5".to_vec();
@@ -272,9 +296,12 @@ fn picture(chance: &mut Chance, width: u64, height: u64, maxval: u64, like: &[u8
     numeral(chance, &mut image, height);
     whites(chance, &mut image);
     numeral(chance, &mut image, maxval);
+    if chance.one_in(3) {
+        put_comments(chance, &mut image);
+    }
     if chance.one_in(500) {
-        // a header that comes to the limit
-        let zeros = 24576 - 8 + chance.below(16) as usize;
+        // a header that comes to the limit, by the zeros of its width or of a comment
+        let zeros = 24576 - 16 + chance.below(20) as usize - image.len();
         image.splice(3..3, std::iter::repeat(b'0').take(zeros));
     }
     image.push(chance.pick(b" \t\r\n"));
@@ -296,13 +323,14 @@ fn damage(chance: &mut Chance, image: &mut Vec<u8>) {
         0 => image.truncate(chance.below(image.len() as u64 + 1) as usize),
         1 => {
             let at = chance.below(20).min(image.len() as u64 - 1) as usize;
-            image[at] = chance.pick(b"#P56 0\n\x0c\x0b\x00\xff9");
+            image[at] = chance.pick(b"##P56 0\r\n\x0c\x0b\x00\xff9");
         }
         2 => image.extend(chance.bytes(5)),
         3 => {
             let at = chance.below(12).min(image.len() as u64 - 1) as usize;
-            image.insert(at, chance.pick(b"# 0159\n"));
+            image.insert(at, chance.pick(b"## 0159\r\n"));
         }
+        4 => image.truncate(chance.below(40) as usize),
         _ => {}
     }
 }

@@ -14,6 +14,7 @@ pub struct Image<'a> {
     pub raster: &'a [u8],
 }
 
+/// A place in the bytes of a slice up to the limit.
 struct Cursor<'a> {
     bytes: &'a [u8],
     at: usize,
@@ -23,65 +24,63 @@ fn is_white(byte: u8) -> bool {
     matches!(byte, b' ' | b'\t' | b'\r' | b'\n')
 }
 
-impl Cursor<'_> {
-    fn peek(&self) -> Result<u8, Refusal> {
-        if self.at >= LIMIT {
-            return Err(Refusal::ImageTooLarge);
-        }
-        self.bytes.get(self.at).copied().ok_or(Refusal::EndsTooEarly)
-    }
+/// The place behind the CR or LF of the comment that `at` stands in, or behind all bytes where it has none.
+#[cold]
+#[inline(never)]
+fn behind_comment(bytes: &[u8], at: usize) -> usize {
+    let end = bytes[at..].iter().position(|byte| matches!(byte, b'\r' | b'\n'));
+    end.map_or(bytes.len(), |end| at + end + 1)
+}
 
-    fn expect(&mut self, wanted: impl Fn(u8) -> bool) -> Result<u8, Refusal> {
-        let byte = self.peek()?;
-        if !wanted(byte) {
-            return Err(Refusal::WrongByte);
-        }
+impl Cursor<'_> {
+    fn take(&mut self) -> Result<u8, Refusal> {
+        let missing = if self.at < LIMIT { Refusal::EndsTooEarly } else { Refusal::ImageTooLarge };
+        let byte = *self.bytes.get(self.at).ok_or(missing)?;
         self.at += 1;
         Ok(byte)
     }
 
-    /// At least one byte of whitespace, and all that follow.
-    fn whites(&mut self) -> Result<(), Refusal> {
-        self.expect(is_white)?;
-        while is_white(self.peek()?) {
-            self.at += 1;
+    /// `P5`, in which no comment can begin, and a white byte.
+    fn kind(&mut self) -> Result<(), Refusal> {
+        for letter in *b"P5" {
+            if self.take()? != letter {
+                return Err(Refusal::WrongByte);
+            }
         }
-        Ok(())
+        loop {
+            match self.take()? {
+                byte if is_white(byte) => return Ok(()),
+                b'#' => self.at = behind_comment(self.bytes, self.at),
+                _ => return Err(Refusal::WrongByte),
+            }
+        }
     }
 
-    /// A number and the one byte of whitespace after it.
+    /// Any white bytes, a number and the one white byte after it.
     fn number(&mut self, most: usize) -> Result<usize, Refusal> {
-        let mut value = usize::from(self.expect(|byte| byte.is_ascii_digit())? - b'0');
-        while self.peek()?.is_ascii_digit() {
-            // any number past the range stays past it
-            value = (value * 10 + usize::from(self.peek()? - b'0')).min(100_000);
-            self.at += 1;
+        let mut value = None;
+        loop {
+            match self.take()? {
+                // any number past the range stays past it
+                byte @ b'0'..=b'9' => value = Some((value.unwrap_or(0) * 10 + usize::from(byte - b'0')).min(100_000)),
+                byte if is_white(byte) => match value {
+                    None => {}
+                    Some(value) if (1..=most).contains(&value) => return Ok(value),
+                    Some(_) => return Err(Refusal::NumberOutOfRange),
+                },
+                b'#' => self.at = behind_comment(self.bytes, self.at),
+                _ => return Err(Refusal::WrongByte),
+            }
         }
-        self.expect(is_white)?;
-        if !(1..=most).contains(&value) {
-            return Err(Refusal::NumberOutOfRange);
-        }
-        Ok(value)
-    }
-
-    fn skip_whites(&mut self) -> Result<(), Refusal> {
-        while is_white(self.peek()?) {
-            self.at += 1;
-        }
-        Ok(())
     }
 }
 
 #[inline(never)]
 pub fn header(bytes: &[u8]) -> Result<Image<'_>, Refusal> {
-    let mut cursor = Cursor { bytes, at: 0 };
-    cursor.expect(|byte| byte == b'P')?;
-    cursor.expect(|byte| byte == b'5')?;
-    cursor.whites()?;
+    let mut cursor = Cursor { bytes: &bytes[..bytes.len().min(LIMIT)], at: 0 };
+    cursor.kind()?;
     let width = cursor.number(1024)?;
-    cursor.skip_whites()?;
     let height = cursor.number(1024)?;
-    cursor.skip_whites()?;
     let maxval = cursor.number(255)?;
     let used = cursor.at + width * height;
     if used > LIMIT {

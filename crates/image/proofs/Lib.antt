@@ -1,6 +1,8 @@
+pub mod FirstByteSeen
 pub mod NextSeen
 pub mod KindsOfBytes
 pub mod FieldsOfBytes
+pub mod NumberUnderWay
 pub mod AnswersTell
 pub mod LargestPixel
 pub mod RasterFaults
@@ -26,5 +28,12 @@ pub mod PrefixLaw
 pub mod DecidedByBytes
 pub mod OneParting
 pub mod PlainBytes
+pub mod CommentsHidden
+pub mod CommentsParted
+pub mod SeenWithoutComments
+pub mod CommentedHeaders
+pub mod ReadAsBefore
+pub mod OwnLines
 pub mod RoundTrip
 pub mod Promises
+pub mod CommentsAtEdges

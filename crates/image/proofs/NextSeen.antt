@@ -1,30 +1,61 @@
--- What a reader sees ahead: one byte more, or none, and the refusal for a byte that is not there.
--- Here, and for the text of a header in PlainBytes, it is used that there are no comments; nowhere else.
+-- What a reader sees ahead, by the byte that stands there: that byte, or what comes behind a comment, or nothing; and the refusal for a
+-- byte that is not there.
 -- Assumes nothing.
 use Prim.Native.Nat.{ℕ, suc, _≤_, _<_, min}
 use mathlib.Core.Bool.{Bool, true, false, cond}
 use mathlib.Core.List.{List, [], _∷_}
-use mathlib.Core.Path.{_≡_}
+use mathlib.Core.Path.{_≡_, ap, _∙_}
 use native.Mathlib.Omega.{arith}
 use borrow.Author.Tests.{le-leb, lt-leb}
 use lib.Dec.{leb}
-use lib.ListN.{length, take, getD, length-take, drop-of-length-le}
+use lib.ListN.{length, take, drop, getD, length-take, drop-of-length-le}
 use lib.Seq.{drop-cons, getD-take}
 use Rattle.refusals.specs.Numbers.{imageTooLarge, endsTooEarly}
+use Rattle.image.specs.Bytes.{lineEnd}
 use Rattle.image.specs.Seen.{limit, comments, visible, ahead, endOf}
+use Rattle.image.specs.Told.{aheadInComment}
+use Rattle.image.proofs.FirstByteSeen.{shown-first, opened-first, hidden-first, ended-first}
 
--- a byte that is there
-pub ahead-next : (s : List ℕ) (used : ℕ) → used < length s → used < limit
-    → ahead s used ≡ record { byte = getD s used 0; upto = suc used } ∷ ahead s (suc used)
-unfolding ahead visible comments
-ahead-next s used there below =
-    let within : used < length (take limit s) = rw (length-take limit s) (omega arith) in
-    rw (drop-cons (take limit s) used 0 within, getD-take limit s used 0 below)
+-- the byte that stands there
+module _ (s : List ℕ) (used : ℕ) (there : used < length s) (below : used < limit) where
+  from-here : drop used (take limit s) ≡ getD s used 0 ∷ drop (suc used) (take limit s)
+  from-here =
+      let within : used < length (take limit s) = rw (length-take limit s) (omega arith) in
+      drop-cons (take limit s) used 0 within ∙ ap (λ (byte : ℕ). byte ∷ drop (suc used) (take limit s)) (getD-take limit s used 0 below)
+
+  abbrev later : List ℕ
+  later = drop (suc used) (take limit s)
+
+  -- it is seen where it opens no comment
+  pub ahead-next : comments false used (getD s used 0) ≡ false
+      → ahead s used ≡ record { byte = getD s used 0; upto = suc used } ∷ ahead s (suc used)
+  unfolding ahead
+  ahead-next none = ap (visible false used) from-here ∙ shown-first used (getD s used 0) later none
+
+  -- where it opens one, what is seen comes behind that
+  pub ahead-opens : comments false used (getD s used 0) ≡ true → ahead s used ≡ aheadInComment s (suc used)
+  unfolding ahead aheadInComment
+  ahead-opens opens = ap (visible false used) from-here ∙ opened-first used (getD s used 0) later opens
+
+  -- inside of a comment it is passed over, and with a line end the comment is over
+  pub comment-goes-on : lineEnd (getD s used 0) ≡ false → aheadInComment s used ≡ aheadInComment s (suc used)
+  unfolding aheadInComment
+  comment-goes-on inside = ap (visible true used) from-here ∙ hidden-first used (getD s used 0) later inside
+
+  pub comment-ends : lineEnd (getD s used 0) ≡ true → aheadInComment s used ≡ ahead s (suc used)
+  unfolding ahead aheadInComment
+  comment-ends last = ap (visible true used) from-here ∙ ended-first used (getD s used 0) later last
 
 -- none: the slice or the limit ends here
 pub ahead-none : (s : List ℕ) (used : ℕ) → min limit (length s) ≤ used → ahead s used ≡ []
 unfolding ahead visible
 ahead-none s used over =
+    let past : length (take limit s) ≤ used = rw (length-take limit s) over in
+    rw (drop-of-length-le (take limit s) past)
+
+pub comment-none : (s : List ℕ) (used : ℕ) → min limit (length s) ≤ used → aheadInComment s used ≡ []
+unfolding aheadInComment visible
+comment-none s used over =
     let past : length (take limit s) ≤ used = rw (length-take limit s) over in
     rw (drop-of-length-le (take limit s) past)
 

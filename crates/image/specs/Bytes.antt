@@ -10,7 +10,7 @@ letterP = 80
 abbrev pub graySign : ℕ
 graySign = 53
 
--- `#`
+-- `#`, with which a comment begins
 abbrev pub hash : ℕ
 hash = 35
 
@@ -29,3 +29,7 @@ lineFeed = 10
 -- white space: space, TAB, CR, LF
 unfoldable pub white : ℕ → Bool
 white byte = eqb byte space || (eqb byte tab || (eqb byte carriageReturn || eqb byte lineFeed))
+
+-- the end of a line: CR or LF
+unfoldable pub lineEnd : ℕ → Bool
+lineEnd byte = eqb byte carriageReturn || eqb byte lineFeed

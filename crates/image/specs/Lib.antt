@@ -10,5 +10,8 @@ pub mod Part
 pub mod Told
 pub mod Format
 pub mod FirstFault
+pub mod Comments
+pub mod OtherReaders
+pub mod Before
 pub mod Promised
 pub mod Text

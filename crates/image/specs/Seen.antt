@@ -1,11 +1,12 @@
--- The header bytes that a reader sees: those of the slice up to the limit, each with the number of bytes used once it is taken.
--- Nothing else says which byte of a slice comes next in a header.
+-- The header bytes that a reader sees: those of the slice up to the limit that belong to no comment, each with the number of bytes used once it
+-- is taken. The reading goes by nothing else; specs/Comments.antt says the same without counting.
 use Prim.Native.Nat.{ℕ, suc}
-use mathlib.Core.Bool.{Bool, false, cond, _||_}
+use mathlib.Core.Bool.{Bool, true, false, cond, not, _&&_, _||_}
 use mathlib.Core.List.{List, [], _∷_}
-use lib.Dec.{leb}
+use lib.Dec.{leb, eqb}
 use lib.ListN.{length, take, drop}
 use Rattle.refusals.specs.Numbers.{imageTooLarge, endsTooEarly}
+use Rattle.image.specs.Bytes.{hash, lineEnd}
 
 -- an image, header included, has at most 24,576 bytes
 abbrev pub limit : ℕ
@@ -16,10 +17,11 @@ pub record Seen : Type 0 where
   pub byte : ℕ
   pub upto : ℕ
 
--- whether a comment goes on behind a byte that has `used` bytes before it, where it stands inside one or not.
--- There are no comments (SCOPE, Images: visible bytes)
+-- whether a comment goes on behind a byte that has `used` bytes before it, where it stands inside one or not: a `#` behind the first
+-- two bytes opens one, and the next CR or LF is its last byte (SCOPE, Images: visible bytes)
 unfoldable pub comments : (inside : Bool) (used byte : ℕ) → Bool
-comments inside used byte = false
+comments false used byte = eqb byte hash && leb 2 used
+comments true used byte = not (lineEnd byte)
 
 -- the bytes, of a list that starts after `used` bytes, that are seen: a comment hides its first byte, its last, and all between them
 unfoldable pub visible : (inside : Bool) (used : ℕ) → List ℕ → List Seen
@@ -29,7 +31,7 @@ visible inside used (byte ∷ later) =
     let behind = visible goesOn (suc used) later in
     cond (inside || goesOn) behind (record { byte = byte; upto = suc used } ∷ behind)
 
--- what a reader that has used some bytes of the slice, the last of them a byte that it saw, still sees
+-- what a reader that has used some bytes of the slice, and stands in no comment, still sees
 unfoldable pub ahead : List ℕ → ℕ → List Seen
 ahead s used = visible false used (drop used (take limit s))
 

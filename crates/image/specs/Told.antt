@@ -1,17 +1,22 @@
 -- How the answers of the code's own steps stand for the steps of the definitions. Only contracts of private functions speak of this.
 use Prim.Native.Nat.{ℕ, zero, suc, max}
-use mathlib.Core.Bool.{cond}
+use mathlib.Core.Bool.{true, cond}
 use mathlib.Core.List.{List}
+use lib.ListN.{take, drop}
 use Rattle.refusals.specs.Numbers.{numberOutOfRange}
 use Rattle.refusals.specs.First.{unlessRefused}
 use Rattle.image.specs.declared.bytes.Took.{Took}
 use Rattle.image.specs.Tests.{upTo}
-use Rattle.image.specs.Seen.{ahead}
+use Rattle.image.specs.Seen.{limit, Seen, visible, ahead}
 use Rattle.image.specs.Step.{Step, stopped, found}
 
 -- the step that an answer tells of: with no refusal, its value and the bytes that are still ahead
 unfoldable pub told : List ℕ → Took → Step ℕ
 told s took = unlessRefused (took .refusal) (found (took .value) (took .used) (ahead s (took .used))) (stopped (took .refusal))
+
+-- what a reader that stands inside of a comment still sees
+unfoldable pub aheadInComment : List ℕ → ℕ → List Seen
+aheadInComment s used = visible true used (drop used (take limit s))
 
 -- the answer at the white byte after a number
 unfoldable pub judgedTook : ℕ → ℕ → ℕ → Took

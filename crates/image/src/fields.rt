@@ -2,13 +2,14 @@
 ghost use mathlib.Core.Path.{_≡_};
 ghost use mathlib.Core.Bool.{true};
 ghost use Prim.Native.Nat.{_≤_, _<_, min};
+ghost use lib.ListN.{length};
 ghost use Rattle.decimals.specs.Decimal.{digit, withDigit};
 ghost use Rattle.image.specs.Bytes.{white};
 ghost use Rattle.image.specs.Tests.{upTo};
 ghost use Rattle.image.specs.Seen.{limit, ahead, endOf};
 ghost use Rattle.image.specs.Step.{stopped, andThen};
 ghost use Rattle.image.specs.Told.{told, judgedTook};
-ghost use Rattle.image.specs.Fields.{afterWhite, moreDigits, numberField, magic};
+ghost use Rattle.image.specs.Fields.{afterWhite, numberField, magic};
 use crate::bytes;
 use crate::bytes::Took;
 use refusals::NUMBER_OUT_OF_RANGE;
@@ -56,22 +57,22 @@ fn is_digit(byte: usize) -> bool
     byte <= NINE
 }
 
-// The bytes used before the first byte that is not white.
+// The bytes used once a run of white bytes is passed over. They are looked at as they stand in the slice, which is quicker than to take
+// them one by one: none of them opens a comment.
 fn skip_white(s: &[u8], used: usize) -> usize
-    ensures { λ r. ⌜ ahead (now (s .entry)) r ≡ afterWhite (ahead (now (s .entry)) used) ⌝ }
+    ensures run { λ r. ⌜ afterWhite (ahead (now (s .entry)) r) ≡ afterWhite (ahead (now (s .entry)) used) ⌝ }
+    ensures fewer { λ r. ⌜ length (ahead (now (s .entry)) r) ≤ length (ahead (now (s .entry)) used) ⌝ }
 {
+    let end = bytes::readable(s);
     let mut at = used;
-    loop {
-        let took = bytes::next(s, at);
-        if took.refusal != 0 {
-            return at;
-        }
-        if is_white(took.value) {
-            at = took.used;
+    while at < end {
+        if is_white(s[at] as usize) {
+            at += 1;
         } else {
             return at;
         }
     }
+    at
 }
 
 // A number with one digit more. It stops above every range, so that no run of digits can wrap it.
@@ -97,33 +98,38 @@ fn judge(value: usize, top: usize, used: usize) -> Took
     bytes::stopped(NUMBER_OUT_OF_RANGE)
 }
 
-// The digits after those that write `first`, and the white byte after them.
-fn more_digits(s: &[u8], used: usize, first: usize, top: usize) -> Took
-    requires { ⌜ (first ≤ 65536) × (top < 65536) ⌝ }
-    ensures step { λ r. ⌜ told (now (s .entry)) r ≡ moreDigits (endOf (now (s .entry))) (upTo top) first (ahead (now (s .entry)) used) ⌝ }
+// A number from 1 to `top`, with the white bytes before it and one white byte after it. In one loop, so that what a comment takes
+// stands in the program only once for each number.
+fn one_number(s: &[u8], used: usize, top: usize) -> Took
+    requires { ⌜ top < 65536 ⌝ }
+    ensures step { λ r. ⌜ told (now (s .entry)) r ≡ numberField (endOf (now (s .entry))) (upTo top) (ahead (now (s .entry)) used) ⌝ }
     ensures within { λ r. ⌜ (r .value ≤ top) × (r .used ≤ limit) ⌝ }
 {
     let mut at = used;
-    let mut value = first;
+    let mut value = 0;
+    // 1 once a digit was read: as a bool it would take an instruction or two more for each digit.
+    let mut begun = 0;
     loop {
         let took = bytes::next(s, at);
         if took.refusal != 0 {
             return bytes::stopped(took.refusal);
         }
-        if is_white(took.value) {
-            return judge(value, top, took.used);
-        }
         if is_digit(took.value) {
             value = grown(value, took.value);
+            begun = 1;
             at = took.used;
+        } else if is_white(took.value) {
+            if begun != 0 {
+                return judge(value, top, took.used);
+            }
+            at = skip_white(s, took.used);
         } else {
             return bytes::stopped(WRONG_BYTE);
         }
     }
 }
 
-// Behind what was taken before: a number from 1 to `top`, with the white bytes before it and one white byte after it. A refusal from
-// before is passed on.
+// Such a number behind what was taken before. A refusal from before is passed on.
 pub(crate) fn number(s: &[u8], before: Took, top: usize) -> Took
     requires { ⌜ top < 65536 ⌝ }
     ensures step { λ r. ⌜ told (now (s .entry)) r ≡ andThen stopped (told (now (s .entry)) before) (λ value used rest. numberField (endOf (now (s .entry))) (upTo top) rest) ⌝ }
@@ -132,14 +138,7 @@ pub(crate) fn number(s: &[u8], before: Took, top: usize) -> Took
     if before.refusal != 0 {
         return bytes::stopped(before.refusal);
     }
-    let first = bytes::next(s, skip_white(s, before.used));
-    if first.refusal != 0 {
-        return bytes::stopped(first.refusal);
-    }
-    if is_digit(first.value) {
-        return more_digits(s, first.used, first.value - ZERO, top);
-    }
-    bytes::stopped(WRONG_BYTE)
+    one_number(s, before.used, top)
 }
 
 // `P`, the byte that says what kind of image it is, and one white byte.

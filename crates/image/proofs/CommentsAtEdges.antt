@@ -1,0 +1,92 @@
+-- Comments at the edges: one that does not end before the slice or the limit does, one with no white byte behind it where one is needed, and
+-- a `#` behind the delimiter, which is a pixel.
+-- Assumes nothing.
+use Prim.Native.Nat.{ℕ, _+_, _-_, _≤_, _<_}
+use mathlib.Core.Bool.{false}
+use mathlib.Core.List.{List, _∷_, _++_}
+use mathlib.Core.Logic.{inr}
+use mathlib.Core.Path.{_≡_, refl, ap, _∙_}
+use native.Mathlib.Omega.{arith}
+use borrow.Author.Tests.{eq-eqb}
+use lib.ListN.{length, take, drop, getD, length-take}
+use lib.Seq.{getD-take, getD-drop}
+use Rattle.refusals.specs.Numbers.{wrongByte, imageTooLarge, endsTooEarly}
+use Rattle.image.specs.Bytes.{letterP, hash, white}
+use Rattle.image.specs.Seen.{Seen, limit, visible, ahead, endOf}
+use Rattle.image.specs.Step.{stopped}
+use Rattle.image.specs.Fields.{oneOf, magic, headerFields}
+use Rattle.image.specs.Kinds.{Kind, pgm}
+use Rattle.image.specs.FirstFault.{RunsOut, seenIn}
+use Rattle.image.specs.Comments.{InLine, Comment, Without}
+use Rattle.image.specs.Promised.{CommentParts}
+use Rattle.image.specs.Reading.{Reading, refusedReading, headerOf, readingOf, named, numbersOf, refusedWith, pixelOf, positionsOf}
+use Rattle.image.proofs.NextSeen.{end-over, end-short}
+use Rattle.image.proofs.ReadingCases.{reading-stopped}
+use Rattle.image.proofs.HeaderFaults.{at-end, fault-stops}
+use Rattle.image.proofs.CommentsHidden.{comment-hidden, other-seen, first-two-seen}
+use Rattle.image.proofs.SeenWithoutComments.{slice-seen}
+use Rattle.image.proofs.Promises.{raster-length, pixel-byte}
+
+-- a comment that has begun where the first 24,576 bytes end, behind bytes that without comments can go on to be a header
+module _ (kind : Kind) (s bytes left text : List ℕ) (there : take limit s ≡ letterP ∷ kind .sign ∷ (bytes ++ (hash ∷ text)))
+    (without : Without bytes left) (within : InLine text) (begun : RunsOut kind (letterP ∷ kind .sign ∷ left)) where
+  pub unended-comment : readingOf kind s ≡ refusedReading (endOf s)
+  unfolding headerOf ahead
+  unended-comment =
+      let p : CommentParts (bytes ++ (hash ∷ text)) =
+      record {
+        bytes = bytes;
+        tail = hash ∷ text;
+        left = left;
+        split = refl;
+        without = without;
+        unended = inr record { text = text; split = refl; within = within };
+      } in
+      let seen : seenIn s ≡ letterP ∷ kind .sign ∷ left = slice-seen s letterP (kind .sign) (bytes ++ (hash ∷ text)) there p in
+      reading-stopped kind s (fault-stops kind (endOf s) (ahead s 0) (at-end refl (rw seen begun)))
+
+  -- past the slice, and past the limit
+  pub comment-past-slice : length s < limit → readingOf kind s ≡ refusedReading endsTooEarly
+  comment-past-slice short = unended-comment ∙ ap refusedReading (end-short s short)
+
+  pub comment-past-limit : limit ≤ length s → readingOf kind s ≡ refusedReading imageTooLarge
+  comment-past-limit long = unended-comment ∙ ap refusedReading (end-over s long)
+
+-- the same of a PGM
+module _ (s bytes left text : List ℕ) (there : take limit s ≡ letterP ∷ pgm .sign ∷ (bytes ++ (hash ∷ text)))
+    (without : Without bytes left) (within : InLine text) (begun : RunsOut pgm (letterP ∷ pgm .sign ∷ left)) where
+  pub pgm-comment-past-slice : length s < limit → numbersOf s ≡ refusedWith endsTooEarly
+  unfolding numbersOf
+  pgm-comment-past-slice short = ap named (comment-past-slice pgm s bytes left text there without within begun short)
+
+  pub pgm-comment-past-limit : limit ≤ length s → numbersOf s ≡ refusedWith imageTooLarge
+  unfolding numbersOf
+  pgm-comment-past-limit long = ap named (comment-past-limit pgm s bytes left text there without within begun long)
+
+-- the line end of a comment is no white byte: where a comment comes right behind the sign, a white byte is needed behind it
+pub comment-no-white : (kind : Kind) (s bytes : List ℕ) (byte : ℕ) (more : List ℕ)
+    → take limit s ≡ letterP ∷ kind .sign ∷ (bytes ++ (byte ∷ more)) → Comment bytes → white byte ≡ false → (byte ≡ hash → ⊥)
+    → readingOf kind s .refusal ≡ wrongByte
+unfolding headerOf ahead headerFields magic oneOf
+comment-no-white kind s bytes byte more there c w other =
+    let seen : ahead s 0 ≡ _ =
+    ap (visible false 0) there
+    ∙ first-two-seen letterP (kind .sign) (bytes ++ (byte ∷ more))
+    ∙ ap (λ (l : List Seen). record { byte = letterP; upto = 1 } ∷ record { byte = kind .sign; upto = 2 } ∷ l)
+    (comment-hidden 2 bytes (byte ∷ more) (omega arith) c ∙ other-seen (2 + length bytes) byte more other) in
+    let stops : headerOf kind s ≡ stopped wrongByte =
+    ap (headerFields (endOf s) (kind .sign) (kind .tests)) seen ∙ rw (eq-eqb (kind .sign) (kind .sign) refl, w) in
+    ap (λ (r : Reading). r .refusal) (reading-stopped kind s stops)
+
+-- behind the delimiter every byte of an accepted image's raster is a pixel, whatever it is
+pub byte-is-a-pixel : (s : List ℕ) (position : ℕ) → numbersOf s .refusal ≡ 0 → position < positionsOf s
+    → pixelOf s position ≡ getD s (numbersOf s .start + position) 0
+byte-is-a-pixel s position taken there =
+    let start = numbersOf s .start in
+    let size = numbersOf s .used - start in
+    let within : position < size = omega (arith, there, raster-length s taken, length-take size (drop start s)) in
+    pixel-byte s position ∙ getD-take size (drop start s) position 0 within ∙ getD-drop start s position 0
+
+pub hash-is-a-pixel : (s : List ℕ) (position : ℕ) → numbersOf s .refusal ≡ 0 → position < positionsOf s
+    → getD s (numbersOf s .start + position) 0 ≡ hash → pixelOf s position ≡ hash
+hash-is-a-pixel s position taken there e = byte-is-a-pixel s position taken there ∙ e
