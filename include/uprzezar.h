@@ -46,7 +46,7 @@ enum {
     UPRZEZAR_RING_CALL = 10,       /* the ring's own calls: the width is not 1 to 16, the slots are not 1 to 4,096, there is no such slot,
                                       more slots are to be summed than the ring has, or a value takes more bits than the width */
     UPRZEZAR_WRONG_BYTE = 11,      /* a wrong byte in an image's header, or a number without digits */
-    UPRZEZAR_BAD_NUMBER = 12,      /* width or height is not 1 to 1,024, or maxval not 1 to 255 */
+    UPRZEZAR_BAD_NUMBER = 12,      /* width or height is not 1 to 1,024, or maxval not 1 to 65,535 */
     UPRZEZAR_IMAGE_TOO_LARGE = 13, /* the image takes more than 24,576 bytes */
     UPRZEZAR_ENDS_TOO_EARLY = 14,  /* the image goes on behind the bytes lent */
     UPRZEZAR_PIXEL_TOO_LARGE = 15, /* a pixel is above maxval */
@@ -202,10 +202,12 @@ uprzezar_window uprzezar_far(uprzezar_book book, const uint8_t *ring, size_t rin
 /* The verdict for a window and an amount, with the window's figure. Refusals: 8, 4, 6, 5. */
 uprzezar_ruled uprzezar_verdict(uprzezar_book book, const uint8_t *ring, size_t ring_bytes, uint64_t window, uint64_t amount);
 
-/* Images: binary PGM, one byte a pixel. Behind `P5`, and before the single white byte behind maxval that delimits the raster, a comment is
-   ignored, even inside a number: the bytes from `#` through the next CR or LF. That line end is neither white space nor the delimiter, so
-   that `P5#c`, LF, `2` is refused with 11. A `#` behind the delimiter is a pixel. Where nothing before it was refused, a comment that runs past
-   the first 24,576 bytes is refused with 13, and otherwise one that runs past the bytes lent with 14. */
+/* Images: binary PGM with maxval 1 to 65,535. Above maxval 255 each pixel is two bytes, the higher first; otherwise it is one.
+
+   Behind `P5`, and before the single white byte behind maxval that delimits the raster, a comment is ignored, even inside a number: the
+   bytes from `#` through the next CR or LF. That line end is neither white space nor the delimiter, so that `P5#c`, LF, `2` is refused with
+   11. A `#` right behind the delimiter is the raster's first byte. Where nothing before it was refused, a comment that runs past the first
+   24,576 bytes is refused with 13, and otherwise one that runs past the bytes lent with 14. */
 
 /* The numbers of the image at the start of the bytes; bytes behind it are allowed. Refusals: 11 to 14 in the order of the header's bytes,
    then 13, 14, 15 for the raster. */
@@ -214,8 +216,8 @@ uprzezar_numbers uprzezar_header(const uint8_t *bytes, size_t count);
 /* Where its raster lies. Refusals: those of uprzezar_header. */
 uprzezar_raster_place uprzezar_raster(const uint8_t *bytes, size_t count);
 
-/* At how many positions the pixels are more than `allowance` apart, but never above `bound`. Refusals: 1, the first image's,
-   the second's, 16. */
+/* How many pixels changed, but never above `bound`. The allowance is in parts of 255 of maxval: a pixel counts where its difference times
+   255 is more than `allowance` times maxval. Refusals: 1, the first image's, the second's, 16. */
 uprzezar_answer uprzezar_score(uint64_t bound, uint8_t allowance, const uint8_t *first, size_t first_bytes, const uint8_t *second,
                                size_t second_bytes);
 

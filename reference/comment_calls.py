@@ -3,7 +3,7 @@
 import random
 
 from calls import call
-from image_calls import damaged, random_image, these
+from image_calls import random_image, these, whole_and_damaged
 from model import IMAGE_LIMIT
 
 NO_LINE_END = bytes(byte for byte in range(256) if byte not in b"\r\n")
@@ -66,7 +66,9 @@ DELIMITERS = [
     b"P5 1 1 255#a\n#b\r\n\x07",  # two comments
     b"P5 1 1 255#c\n\x07",  # the pixel stands in the place of the white byte
     b"P5 1 1 255#c\r\x07",
-    b"P5 1 1 255#c\n7 \x07",  # a digit goes on with the number
+    b"P5 1 1 255#c\n7 \x07",  # a digit goes on with the number: a byte is missing
+    b"P5 1 1 255#c\n7 \x07\x07",
+    b"P5 1 1 255#c\n777 \x07\x07",
     b"P5 1 1 25#c\n5 \x07",
     b"P5 1 1 255#c\n",  # no white byte
     b"P5 1 1 255#c\r",
@@ -87,7 +89,9 @@ NUMBERS = [
     b"P5 10#c\n24 1 255 " + b"\x07" * 1024,  # 1024
     b"P5 10#c\n25 1 255 ",  # 1025
     b"P5 1 10#c\n25 255 ",
-    b"P5 1 1 25#c\n6 \x07",  # 256
+    b"P5 1 1 25#c\n6 \x07",  # 256, and one of the two bytes that its pixel takes
+    b"P5 1 1 6553#c\n5 \x07\x07",  # 65535
+    b"P5 1 1 6553#c\n6 \x07\x07",  # 65536
     b"P5 0#c\n 1 255 \x07",  # 0
     b"P5 0#c\n0 1 255 \x07",
     b"P5 1 0#c\n 255 ",
@@ -173,10 +177,7 @@ def commented(rng, data):
 
 def random_images(rng, count):
     for _ in range(count):
-        data = commented(rng, random_image(rng))
-        yield call("pgm", data)
-        yield call("pgm", damaged(rng, data))
-        yield call("pgm", damaged(rng, damaged(rng, data)))
+        yield from whole_and_damaged(rng, commented(rng, random_image(rng)))
 
 
 def random_strings(rng, count):

@@ -3,12 +3,23 @@
 import random
 
 from calls import call
+from model import bytes_per_pixel
 
 
 def image(width, height, maxval, pixels, gaps=(b"\n", b" ", b"\n", b"\n")):
     """A binary PGM with the white bytes given, one gap after each word of its header."""
     words = [b"P5", str(width).encode(), str(height).encode(), str(maxval).encode()]
     return b"".join(word + gap for word, gap in zip(words, gaps)) + pixels
+
+
+def raster(maxval, pixels):
+    """The bytes of these pixels, one a pixel or, above 255, two, the higher first."""
+    return b"".join(pixel.to_bytes(bytes_per_pixel(maxval), "big") for pixel in pixels)
+
+
+def row(maxval, pixels):
+    """An image of one row with these pixels."""
+    return image(len(pixels), 1, maxval, raster(maxval, pixels))
 
 
 GOOD = [
@@ -81,8 +92,8 @@ def ranges():
     for size in (b"1024 2", b"1025 2", b"2 1024", b"2 1025"):
         width, height = map(int, size.split())
         yield call("pgm", b"P5 " + size + b" 255\n" + b"\x07" * (width * height))
-    for maxval in (b"255", b"256"):
-        yield call("pgm", b"P5 2 2 " + maxval + b"\n" + b"\x07" * 4)
+    for maxval in (b"65535", b"65536"):
+        yield call("pgm", b"P5 2 2 " + maxval + b"\n" + b"\x07" * 8)
     for text in (b"P5 0 2 255\n", b"P5 2 0 255\n", b"P5 2 2 0\n" + bytes(4)):
         yield call("pgm", text)
     for width in (0, 1, 1023, 1024, 1025, 65536, 2**32 + 1, 2**64 + 1):
@@ -112,7 +123,7 @@ def ends(rng):
 
 
 def bright_pixels():
-    """Each maxval at an end of its range, with pixels at it and one above it."""
+    """Each maxval at an end of a range, with pixels at it and one above it, in a byte each: above 255 half of the raster is missing."""
     yield from these(BRIGHT)
     for maxval in (0, 1, 9, 254, 255, 256, 257, 65535, 2**64 + 255):
         for pixel in sorted({0, min(maxval, 255), min(maxval + 1, 255)}):
@@ -120,10 +131,14 @@ def bright_pixels():
             yield call("pgm", image(2, 1, maxval, bytes([pixel, 0])))
 
 
-def random_image(rng, top=6):
-    width, height, maxval = rng.randint(1, top), rng.randint(1, top), rng.choice([255, 255, 1, rng.randint(1, 255)])
+def one_byte_maxval(rng):
+    return rng.choice([255, 255, 1, rng.randint(1, 255)])
+
+
+def random_image(rng, random_maxval=one_byte_maxval):
+    width, height, maxval = rng.randint(1, 6), rng.randint(1, 6), random_maxval(rng)
     gaps = [bytes(rng.choice(b" \t\r\n") for _ in range(rng.choice([1, 1, 2, 3]))) for _ in range(3)]
-    pixels = bytes(rng.randint(0, maxval) for _ in range(width * height))
+    pixels = raster(maxval, [rng.randint(0, maxval) for _ in range(width * height)])
     return image(width, height, maxval, pixels, gaps + [bytes([rng.choice(b" \t\r\n")])])
 
 
@@ -139,12 +154,16 @@ def damaged(rng, data):
     return data[:place] + data[place + 1 :] if which == 2 else data[:place]
 
 
+def whole_and_damaged(rng, data):
+    """An image, with one fault, and with two."""
+    yield call("pgm", data)
+    yield call("pgm", damaged(rng, data))
+    yield call("pgm", damaged(rng, damaged(rng, data)))
+
+
 def random_images(rng, count):
     for _ in range(count):
-        data = random_image(rng)
-        yield call("pgm", data)
-        yield call("pgm", damaged(rng, data))
-        yield call("pgm", damaged(rng, damaged(rng, data)))
+        yield from whole_and_damaged(rng, random_image(rng))
     for _ in range(count // 4):
         yield call("pgm", rng.randbytes(rng.randint(0, 9)))
         yield call("pgm", bytes(rng.choice(b"P5 12\n#") for _ in range(rng.randint(0, 12))))

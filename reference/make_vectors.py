@@ -21,6 +21,7 @@ import paper_cases
 import ring_calls
 import run_calls
 import score_calls
+import two_byte_calls
 import worked
 
 HOME = Path(__file__).resolve().parent.parent / "crates" / "vectors"
@@ -29,7 +30,8 @@ HOME = Path(__file__).resolve().parent.parent / "crates" / "vectors"
 def sections():
     """Every section's name and calls, in order. Random ones have a seed each, so that a change in one leaves the others as they are."""
     yield "lines of the format", []
-    for part in (paper_cases, ring_calls, book_calls, run_calls, image_calls, comment_calls, score_calls, other_lines):
+    parts = (paper_cases, ring_calls, book_calls, run_calls, image_calls, comment_calls, two_byte_calls, score_calls, other_lines)
+    for part in parts:
         yield from part.sections()
 
 

@@ -11,6 +11,8 @@ LARGEST_BOUND = 65535
 LARGEST_LENGTH = 4096
 LARGEST_WIDTH = 16
 LARGEST_SLOTS = 4096
+LARGEST_SIDE = 1024
+LARGEST_MAXVAL = 65535
 IMAGE_LIMIT = 24576
 
 Record = namedtuple("Record", "L n D R p kept head")
@@ -339,22 +341,35 @@ class Header:
         return self.number(byte, top)
 
 
+def bytes_per_pixel(maxval):
+    """One as long as a byte can hold maxval, and two above that."""
+    return 1 if maxval <= 255 else 2
+
+
+def pixels(raster, maxval):
+    """The pixels of a raster as numbers, in their order: its bytes, or its bytes two by two, the first of the two being the higher."""
+    if bytes_per_pixel(maxval) == 1:
+        return list(raster)
+    return [256 * high + low for high, low in zip(raster[0::2], raster[1::2])]
+
+
 def read_image(data):
-    """width, height, maxval, bytes used, where the raster starts, its length; Refused if it is none."""
+    """width, height, maxval, bytes used, where the raster starts, how many bytes it has; Refused if it is none."""
     header = Header(data)
     header.need(b"P")
     header.need(b"5")
-    width = header.number(header.white_then_digit(), 1024)
-    height = header.next_number(1024)
-    maxval = header.next_number(255)
-    used = header.at + width * height
+    width = header.number(header.white_then_digit(), LARGEST_SIDE)
+    height = header.next_number(LARGEST_SIDE)
+    maxval = header.next_number(LARGEST_MAXVAL)
+    size = width * height * bytes_per_pixel(maxval)
+    used = header.at + size
     if used > IMAGE_LIMIT:
         raise Refused(13)
     if used > len(data):
         raise Refused(14)
-    if max(data[header.at : used]) > maxval:
+    if max(pixels(data[header.at : used], maxval)) > maxval:
         raise Refused(15)
-    return width, height, maxval, used, header.at, width * height
+    return width, height, maxval, used, header.at, size
 
 
 def pgm(data):
@@ -365,9 +380,9 @@ def pgm(data):
         return (fault.args[0],) + NO_IMAGE
 
 
-def changed(first, second, allowance):
-    """How many pixels differ by more than the allowance."""
-    return sum(abs(x - y) > allowance for x, y in zip(first, second))
+def changed(first, second, allowance, maxval):
+    """How many pixels differ by more than the allowance, which is told in parts of 255: by more than allowance/255 of maxval."""
+    return sum(abs(x - y) * 255 > allowance * maxval for x, y in zip(first, second))
 
 
 def score(L, a, first, second):
@@ -381,7 +396,8 @@ def score(L, a, first, second):
     one, two = read_image(first), read_image(second)
     if one[:3] != two[:3]:
         return 16, 0
-    return 0, min(L, changed(first[one[4] : one[3]], second[two[4] : two[3]], a))
+    maxval = one[2]
+    return 0, min(L, changed(pixels(first[one[4] : one[3]], maxval), pixels(second[two[4] : two[3]], maxval), a, maxval))
 
 
 # --- lines ------------------------------------------------------------------------------------------------------------

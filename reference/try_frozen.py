@@ -18,6 +18,7 @@ import time
 from pathlib import Path
 
 import model
+from image_calls import image, raster
 
 ROOT = Path(__file__).resolve().parent.parent
 COMMAND = sys.argv[1:] or [str(ROOT / "sample/frozen")]
@@ -50,17 +51,24 @@ def output(data):
     return "".join(text).encode()
 
 
-def image(width, height, pixels):
-    return b"P5\n%d %d\n255\n" % (width, height) + bytes(pixels)
-
-
-def frames(rng, count, width, height):
+def frames(rng, count, width, height, maxval=255):
     """So many images, each with some pixels of the one before changed."""
-    pixels = bytearray(rng.randrange(256) for _ in range(width * height))
+    pixels = [rng.randint(0, maxval) for _ in range(width * height)]
     for _ in range(count):
         for _ in range(rng.choice((0, 1, len(pixels) // 4))):
-            pixels[rng.randrange(len(pixels))] = rng.randrange(256)
-        yield image(width, height, pixels)
+            pixels[rng.randrange(len(pixels))] = rng.randint(0, maxval)
+        yield image(width, height, maxval, raster(maxval, pixels))
+
+
+def nudged_frames(rng, count, width, height, maxval):
+    """So many images; from each to the next some pixels go just as far as the allowance of 12 lets them, and some 1 farther."""
+    most = 12 * maxval // 255
+    pixels = [rng.randint(0, maxval) for _ in range(width * height)]
+    for _ in range(count):
+        yield image(width, height, maxval, raster(maxval, pixels))
+        for at in rng.sample(range(len(pixels)), len(pixels) // 10):
+            far = rng.choice((most, most + 1))
+            pixels[at] += far if pixels[at] + far <= maxval else -far
 
 
 def hold(kind, streams):
@@ -110,6 +118,17 @@ def commented_streams(rng):
     yield three + b"P5 3 2#" + b"c" * 30000 + b"\n 255\n" + bytes(6)
     yield three + b"P5 3 2#" + b"c" * 20000
     yield three + b"# no comment\n" + three
+
+
+def two_byte_streams(rng):
+    """Images of 120 x 90; other maxvals, below 255 too; the largest ones, and one that is too large; then another maxval in the stream."""
+    yield b"".join(frames(rng, 200, 120, 90, 4095))
+    yield b"".join(nudged_frames(rng, 60, 120, 90, 4095))
+    for maxval in (100, 254, 256, 1023, 65534, 65535):
+        yield b"".join(nudged_frames(rng, 40, 30, 20, maxval))
+    yield b"".join(frames(rng, 4, 40, 307, 65535)) + b"P5  40 307 65535\n" + bytes(24560)
+    yield b"".join(frames(rng, 3, 9, 7, 256)) + b"".join(frames(rng, 3, 9, 7, 257))
+    yield b"".join(frames(rng, 3, 9, 7, 255)) + b"".join(frames(rng, 3, 9, 7, 256))
 
 
 def held_open(rng):
@@ -233,6 +252,10 @@ def main():
     three = b"".join(COMMENTED)
     hold("commented, cut at every byte", [three[:k] for k in range(1, len(three) + 1)])
     hold("commented", list(commented_streams(rng)))
+    wide = b"".join(nudged_frames(rng, 12, 9, 7, 4095))
+    hold("two bytes a pixel, cut anywhere", [wide[: rng.randrange(len(wide))] for _ in range(100)])
+    hold("two bytes a pixel, damaged", [damaged(rng, wide) for _ in range(100)])
+    hold("two bytes a pixel, and other maxvals", list(two_byte_streams(rng)))
     hold("another size", [b"".join(frames(rng, 3, 9, 7)) + b"".join(frames(rng, 3, 7, 9))])
     hold("largest image", [b"P5 1024 23 255 " + bytes(1024 * 23) + b"P5 1024 24 255 " + bytes(1024 * 24)])
     hold(f"{LONG} frames", [b"".join(frames(rng, LONG, 16, 12))])

@@ -1,4 +1,5 @@
-"""Figures worked by hand, as calls and answers: the cases A to G of docs/SCOPE.md, comments in headers, and the lines of the vectors' format.
+"""Figures worked by hand, as calls and answers: the cases A to G of docs/SCOPE.md, comments in headers, pixels of two bytes, and the lines
+of the vectors' format.
 
 The model is held to them each time the vectors are made. They stand first in the section of their name.
 """
@@ -77,8 +78,8 @@ FIGURES = {
         ("pgm -", "14 0 0 0 0 0 0"),
         (f"pgm {b'P5 1025 '.hex()}", "12 0 0 0 0 0 0"),
         (f"pgm {b'P5 1024 '.hex()}", "14 0 0 0 0 0 0"),
-        (f"pgm {b'P5 1 1 256 '.hex()}", "12 0 0 0 0 0 0"),
-        (f"pgm {b'P5 1 1 255 '.hex()}", "14 0 0 0 0 0 0"),
+        (f"pgm {b'P5 1 1 65536 '.hex()}", "12 0 0 0 0 0 0"),
+        (f"pgm {b'P5 1 1 65535 '.hex()}", "14 0 0 0 0 0 0"),
     ],
     # A comment before a number; behind P5, without a white byte and with one; before and in P5. Behind the delimiter it is a pixel.
     "images: comments": pgm(
@@ -91,11 +92,13 @@ FIGURES = {
         (b"P5 1 1 255 #", "0 1 1 255 12 11 1"),
         (b"P5 1 1 34 #", 15),
     ),
-    # CR ends the comment and LF delimits; LF ends it and nothing delimits; a digit goes on.
+    # CR ends the comment and LF delimits; LF ends it and nothing delimits; a digit goes on, to 2557 and to 65536.
     "images: comments and their ends": pgm(
         (b"P5 1 1 255#c\r\n\x07", "0 1 1 255 15 14 1"),
         (b"P5 1 1 255#c\n\x07", 11),
-        (b"P5 1 1 255#c\n7 \x07", 12),
+        (b"P5 1 1 255#c\n7 \x07", 14),
+        (b"P5 1 1 255#c\n7 \x07\x07", "0 1 1 2557 17 15 2"),
+        (b"P5 1 1 6553#c\n6 \x07", 12),
         (b"P5 1 1 255#c\n", 14),
     ),
     # 12 x 1; 1 x 2; 1025, judged at the white byte behind the comment and not at the comment.
@@ -117,6 +120,52 @@ FIGURES = {
         (b"P5 24 1023 255#ccccccc\n\n", 14),
         (b"P5 24 1023 255#cccccccc\n\n", 13),
     ),
+    # One byte at 255, two bytes at 256 and at 65535.
+    "images: two bytes a pixel, ranges of maxval": pgm(
+        (b"P5 1 1 255 \1\0", "0 1 1 255 12 11 1"),
+        (b"P5 1 1 256 \1\0", "0 1 1 256 13 11 2"),
+        (b"P5 1 1 256 \1", 14),
+        (b"P5 1 1 65535 \xff\xff", "0 1 1 65535 15 13 2"),
+        (b"P5 1 1 65536 \xff\xff", 12),
+    ),
+    # 4095 is 0f ff: at it, above it, below it in the higher byte alone, and above it there alone; the last pixel, and what is behind it.
+    "images: two bytes a pixel, bright pixels": pgm(
+        (b"P5 1 1 4095 \x0f\xff", "0 1 1 4095 14 12 2"),
+        (b"P5 1 1 4095 \x10\0", 15),
+        (b"P5 1 1 4095 \x0e\xff", "0 1 1 4095 14 12 2"),
+        (b"P5 1 1 256 \0\xff", "0 1 1 256 13 11 2"),
+        (b"P5 1 1 256 \1\1", 15),
+        (b"P5 2 1 256 \1\0\1\1", 15),
+        (b"P5 2 1 256 \1\0\1\0\1\1", "0 2 1 256 15 11 4"),
+    ),
+    # The header has 16 bytes and the raster 24,560; with a white byte more it is too large. So is 1024 x 12, 24,576 without a header.
+    "images: two bytes a pixel, limits": pgm(
+        (b"P5 40 307 65535\n" + b"\xff" * 24560, "0 40 307 65535 24576 16 24560"),
+        (b"P5 40 307 65535\n", 14),
+        (b"P5  40 307 65535\n", 13),
+        (b"P5 1024 12 256\n", 13),
+        (b"P5 1024 12 255\n", 14),
+    ),
+    # 12 parts of 255: of 100 they are 4.7, of 4095 192.7, of 65535 3084. 254 parts of 1 are below 1, and 255 are 1.
+    "scores: allowances in parts of maxval": [
+        (f"score 600 {a} {x.hex()} {y.hex()}", f"0 {count}")
+        for a, x, y, count in [
+            (12, b"P5 2 1 100 \0\0", b"P5 2 1 100 \4\5", 1),
+            (12, b"P5 2 1 4095 \0\0\1\0", b"P5 2 1 4095 \0\xc0\1\xc1", 1),
+            (12, b"P5 2 1 65535 \x0c\x0c\x0c\x0d", b"P5 2 1 65535 \0\0\0\0", 1),
+            (254, b"P5 2 1 1 \0\1", b"P5 2 1 1 \1\0", 2),
+            (255, b"P5 2 1 1 \0\1", b"P5 2 1 1 \1\0", 0),
+        ]
+    ],
+    # 00 ff and 01 00 are 1 apart, 00 00 and 01 01 257, which is one part of 255.
+    "scores: two bytes a pixel": [
+        (f"score 600 {a} {b'P5 2 1 65535 '.hex()}00ff0000 {b'P5 2 1 65535 '.hex()}01000{low}0{low}", f"0 {count}")
+        for a, low, count in [(0, 1, 2), (1, 1, 0), (1, 2, 1)]
+    ],
+    "scores: unlike maxvals": [
+        (f"score 600 12 {b'P5 1 1 255 '.hex()}00 {b'P5 1 1 256 '.hex()}0000", "16 0"),
+        (f"score 600 12 {b'P5 1 1 256 '.hex()}0000 {b'P5 1 1 257 '.hex()}0000", "16 0"),
+    ],
     # Two pixels have changed, wherever the rasters start.
     "scores of images with comments": [
         (f"score 600 12 {DARK.hex()} {LIT.hex()}", "0 2"),

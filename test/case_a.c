@@ -1,5 +1,5 @@
-/* Case A of docs/SCOPE.md, through the header, item by item and as one run, the small pictures of its program, and headers with comments;
-   the shapes of its book and of the box's. */
+/* Case A of docs/SCOPE.md, through the header, item by item and as one run, the small pictures of its program, pictures of two bytes a
+   pixel, and headers with comments; the shapes of its book and of the box's. */
 #include "../include/uprzezar.h"
 
 #include <inttypes.h>
@@ -100,6 +100,22 @@ static void comments(void) {
     IMAGE("P5\n2 2\n255# c");
 }
 
+/* With maxval 4,095 and the allowance 12 a difference of 193 counts and one of 192 does not. */
+static void two_bytes(void) {
+    static const uint8_t one[] = "P5 3 1 4095 \0\0\0\0\017\377";
+    static const uint8_t two[] = "P5 3 1 4095 \0\300\0\301\017\77";
+    uprzezar_raster_place p = uprzezar_raster(two, sizeof two);
+    uprzezar_answer s = uprzezar_score(600, 12, one, sizeof one, two, sizeof two);
+    image(one, sizeof one);
+    printf("raster: refusal %u, %zu bytes from %zu\n", p.refusal, p.length, p.offset);
+    printf("score: refusal %u, %" PRIu64 "\n", s.refusal, s.value);
+    IMAGE("P5 1 1 256 \1\0");
+    IMAGE("P5 1 1 256 \1\1");
+    IMAGE("P5 1 1 65535 \377\377");
+    IMAGE("P5 2 1 65535 \377\377\377");
+    IMAGE("P5 1 1 65536 \377\377");
+}
+
 static void pictures(void) {
     static const uint8_t one[] = "P5\n2 2\n255\n\0\0\0";
     static const uint8_t two[] = "P5 2 2 255 \024\014\015";
@@ -127,6 +143,7 @@ int main(void) {
     book();
     runs();
     pictures();
+    two_bytes();
     comments();
     slots();
     return 0;

@@ -1,6 +1,7 @@
 //! The calls that are measured, each on both sides with the same arguments.
 
 use crate::chance::Chance;
+use crate::pictures::{Kind, ONE_BYTE, TWO_BYTES};
 use crate::plain::book::{Book, Shape};
 use crate::plain::{image, score, Refusal};
 use crate::proved;
@@ -168,37 +169,35 @@ fn book_cases(cases: &mut Vec<Case>, setting: &str, bound: u64, length: u64, tol
     });
 }
 
-/// A picture of 160 x 120 with pixels up to maxval, and with this comment, or none, behind its first line.
-fn picture_with(comment: &str, seed: u64, maxval: u64) -> Vec<u8> {
-    let mut chance = Chance::new(seed);
-    let mut image = format!("P5\n{comment}160 120\n{maxval}\n").into_bytes();
-    image.extend((0..160 * 120).map(|_| chance.below(maxval + 1) as u8));
-    image
+fn header_case(cases: &mut Vec<Case>, what: &str, image: Vec<u8>) {
+    let (a, b) = (image.clone(), image);
+    cases.push(Case {
+        name: format!("header of {what}"),
+        plain: repeated(move || image::header(black_box(&a)).map(|image| image.used)),
+        proved: repeated(move || proved::header(black_box(&b))),
+    });
 }
 
-/// A picture of 160 x 120 with pixels up to maxval.
-pub fn picture(seed: u64, maxval: u64) -> Vec<u8> {
-    picture_with("", seed, maxval)
-}
-
-fn picture_cases(cases: &mut Vec<Case>) {
-    let commented = picture_with("# made by a viewer\n", 1, 255);
-    let pictures = [("maxval 255", picture(1, 255)), ("maxval 200", picture(1, 200)), ("maxval 255, a comment", commented)];
-    for (what, image) in pictures {
-        let (a, b) = (image.clone(), image);
-        cases.push(Case {
-            name: format!("header of 160 x 120, {what}"),
-            plain: repeated(move || image::header(black_box(&a)).map(|image| image.used)),
-            proved: repeated(move || proved::header(black_box(&b))),
-        });
-    }
-    let (one_a, two_a) = (picture(1, 255), picture(2, 255));
+fn score_case(cases: &mut Vec<Case>, what: &str, kind: Kind) {
+    let (one_a, two_a) = (kind.picture(1), kind.picture(2));
     let (one_b, two_b) = (one_a.clone(), two_a.clone());
     cases.push(Case {
-        name: "score of 160 x 120".to_string(),
+        name: format!("score of {what}"),
         plain: repeated(move || score::score(black_box(600), black_box(12), &one_a, &two_a)),
         proved: repeated(move || proved::score(black_box(600), black_box(12), &one_b, &two_b)),
     });
+}
+
+fn picture_cases(cases: &mut Vec<Case>) {
+    let darker = Kind { maxval: 200, ..ONE_BYTE };
+    let commented = ONE_BYTE.picture_with("# made by a viewer\n", &mut Chance::new(1));
+    header_case(cases, "160 x 120, maxval 255", ONE_BYTE.picture(1));
+    header_case(cases, "160 x 120, maxval 200", darker.picture(1));
+    header_case(cases, "160 x 120, maxval 255, a comment", commented);
+    header_case(cases, "120 x 90, maxval 4,095", TWO_BYTES.picture(1));
+    score_case(cases, "160 x 120", ONE_BYTE);
+    score_case(cases, "160 x 120, maxval 200", darker);
+    score_case(cases, "120 x 90, maxval 4,095", TWO_BYTES);
 }
 
 pub fn all() -> Vec<Case> {

@@ -3,6 +3,7 @@
 
 pub mod cases;
 pub mod chance;
+pub mod pictures;
 pub mod plain;
 pub mod proved;
 pub mod stream;

@@ -1,25 +1,29 @@
 //! A stream of pictures for the two programs.
 
-use crate::cases::picture;
 use crate::chance::Chance;
+use crate::pictures::{pixel_bytes, Kind};
 use std::fs::File;
 use std::io::{BufWriter, Result, Write};
 use std::path::{Path, PathBuf};
 
-/// A file of so many frames of 160 x 120, removed when it is dropped: fifty of noise, fifty of small changes and fifty still ones by turns.
+/// A file of so many frames, removed when it is dropped: fifty of noise, fifty of small changes and fifty still ones by turns.
 pub struct Stream(PathBuf);
 
 impl Stream {
-    pub fn new(frames: u64) -> Result<Stream> {
-        let path = std::env::temp_dir().join(format!("uprzezar-{}-{frames}.pgm", std::process::id()));
+    pub fn new(frames: u64, kind: Kind) -> Result<Stream> {
+        let name = format!("uprzezar-{}-{frames}-{}.pgm", std::process::id(), kind.maxval);
+        let path = std::env::temp_dir().join(name);
         let mut chance = Chance::new(3);
         let mut file = BufWriter::new(File::create(&path)?);
-        let mut image = picture(4, 255);
-        let raster = image.len() - 160 * 120;
+        let mut image = kind.picture(4);
+        let raster = image.len() - kind.raster_bytes();
+        let bytes = pixel_bytes(kind.maxval);
+        // a quarter of all grey levels, as a bit of a pixel's first byte
+        let bit = (((kind.maxval + 1) / 4) >> (8 * (bytes - 1))) as u8;
         for frame in 0..frames {
             match frame / 50 % 3 {
-                0 => image[raster..].iter_mut().for_each(|pixel| *pixel = chance.next() as u8),
-                1 => (0..400).for_each(|_| image[raster + chance.below(160 * 120) as usize] ^= 64),
+                0 => image = kind.picture_with("", &mut chance),
+                1 => (0..400).for_each(|_| image[raster + chance.below(kind.pixels()) as usize * bytes] ^= bit),
                 _ => {}
             }
             file.write_all(&image)?;

@@ -5,6 +5,7 @@
 //! A call is what 300 of them take more than 100, divided by 200: so neither the start nor the making of arguments counts. For that the
 //! program runs itself under valgrind, as `count CALL SIDE N`.
 
+use bench::pictures::{Kind, ONE_BYTE, TWO_BYTES};
 use bench::stream::Stream;
 use std::process::{Command, Stdio};
 
@@ -37,13 +38,13 @@ fn calls() {
     }
 }
 
-fn programs(proved: &str, plain: &str) {
-    let [short, long] = [150, 450].map(|frames| Stream::new(frames).expect("the stream can be written"));
+fn programs(proved: &str, plain: &str, what: &str, kind: Kind) {
+    let [short, long] = [150, 450].map(|frames| Stream::new(frames, kind).expect("the stream can be written"));
     let of = |program: &str, stream: &Stream| {
         counted(program, &[], Stdio::from(stream.open().expect("the stream was written")))
     };
     let [plain, proved] = [plain, proved].map(|program| (of(program, &long) - of(program, &short)) / 300);
-    row("a frame of 160 x 120 in frozen", plain, proved);
+    row(&format!("a frame of {what} in frozen"), plain, proved);
 }
 
 fn repeat(call: &str, side: &str, times: &str) {
@@ -63,5 +64,6 @@ fn main() {
     println!("| call | plain | proved | proved/plain |");
     println!("|---|---|---|---|");
     calls();
-    programs(&words[0], &words[1]);
+    programs(&words[0], &words[1], "160 x 120", ONE_BYTE);
+    programs(&words[0], &words[1], "120 x 90, maxval 4,095,", TWO_BYTES);
 }

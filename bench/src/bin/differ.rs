@@ -4,6 +4,7 @@
 
 use bench::cases::crossed;
 use bench::chance::Chance;
+use bench::pictures::{pixel_bytes, put_pixel};
 use bench::plain::book::{Book, Shape, Verdict};
 use bench::plain::{image, ring, score, Refusal};
 use bench::proved;
@@ -287,8 +288,20 @@ fn put_comments(chance: &mut Chance, header: &mut Vec<u8>) {
     }
 }
 
-/// An image with these numbers, changed pixels of `like` where it has as many.
-fn picture(chance: &mut Chance, width: u64, height: u64, maxval: u64, like: &[u8]) -> Vec<u8> {
+/// The number that bytes write, the highest first.
+fn value(bytes: &[u8]) -> u64 {
+    bytes.iter().fold(0, |value, &byte| value << 8 | u64::from(byte))
+}
+
+/// A pixel so far from an old one, or one less or more, if there is such a pixel up to maxval.
+fn stepped(chance: &mut Chance, old: u64, apart: u64, maxval: u64) -> u64 {
+    let step = (apart + chance.below(3)).saturating_sub(1);
+    let there = if chance.one_in(2) { old.checked_sub(step) } else { old.checked_add(step) };
+    there.filter(|&there| there <= maxval).unwrap_or(old)
+}
+
+/// An image with these numbers and, where `like` has as many pixels, with those, some of them changed, by about `apart` or at will.
+fn picture(chance: &mut Chance, width: u64, height: u64, maxval: u64, like: &[u8], apart: u64) -> Vec<u8> {
     let mut image = b"P5".to_vec();
     whites(chance, &mut image);
     numeral(chance, &mut image, width);
@@ -305,15 +318,20 @@ fn picture(chance: &mut Chance, width: u64, height: u64, maxval: u64, like: &[u8
         image.splice(3..3, std::iter::repeat(b'0').take(zeros));
     }
     image.push(chance.pick(b" \t\r\n"));
-    let size = width.saturating_mul(height).min(26_000) as usize;
-    let above = if chance.one_in(16) { 256 } else { maxval.min(255) + 1 };
+    let bytes = pixel_bytes(maxval);
+    let pixels = width.saturating_mul(height).min(26_000 / bytes as u64) as usize;
+    let most = if bytes == 1 { 255 } else { 65535 };
+    let above = if chance.one_in(16) { most + 1 } else { maxval.min(most) + 1 };
     let still = chance.one_in(2);
-    for i in 0..size {
-        let old = like.len().checked_sub(size).map(|skip| like[skip + i]);
-        image.push(match old {
-            Some(byte) if still || chance.one_in(2) => byte,
-            _ => chance.below(above) as u8,
-        });
+    let raster = like.len().checked_sub(pixels * bytes).map(|start| &like[start..]);
+    for i in 0..pixels {
+        let old = raster.map(|raster| value(&raster[i * bytes..][..bytes]));
+        let pixel = match old {
+            Some(old) if still || chance.one_in(2) => old,
+            Some(old) if chance.one_in(2) => stepped(chance, old, apart, maxval),
+            _ => chance.below(above),
+        };
+        put_pixel(&mut image, bytes, pixel);
     }
     image
 }
@@ -338,15 +356,26 @@ fn damage(chance: &mut Chance, image: &mut Vec<u8>) {
 fn image_calls(chance: &mut Chance, t: &mut [Tally]) {
     let large = chance.one_in(200);
     let width = if large { near(chance, 1024) } else { near(chance, 12) };
-    let height = if large { near(chance, 24560 / width.max(1)) } else { near(chance, 12) };
-    let maxval = if chance.one_in(2) { near(chance, 255) } else { 255 };
-    let mut first = picture(chance, width, height, maxval, &[]);
-    let other = if chance.one_in(8) { width + 1 } else { width };
-    let mut second = picture(chance, other, height, maxval, &first);
+    let maxval = match chance.below(6) {
+        0 => near(chance, 255),
+        1 => near(chance, 65535),
+        2 => chance.pick(&[256, 257, 4095, 65534, 65535]),
+        3 => 4095,
+        _ => 255,
+    };
+    let height = if large { near(chance, 24560 / pixel_bytes(maxval) as u64 / width.max(1)) } else { near(chance, 12) };
+    let allowance = chance.pick(&[0, 1, 12, 254, 255, 100]);
+    let apart = u64::from(allowance) * maxval.min(65535) / 255;
+    let mut first = picture(chance, width, height, maxval, &[], apart);
+    let (other_width, other_maxval) = match chance.below(16) {
+        0 | 1 => (width + 1, maxval),
+        2 => (width, maxval.wrapping_add(1)),
+        _ => (width, maxval),
+    };
+    let mut second = picture(chance, other_width, height, other_maxval, &first, apart);
     damage(chance, &mut first);
     damage(chance, &mut second);
     let bound = if chance.one_in(2) { near(chance, 65535) } else { near(chance, 40) };
-    let allowance = chance.pick(&[0, 1, 12, 254, 255, 100]);
     let call = || format!("bound {bound}, allowance {allowance}, {first:02x?}, {second:02x?}");
 
     let result = image::header(&first);

@@ -3,6 +3,7 @@
 //!     speed PROVED_FROZEN PLAIN_FROZEN
 
 use bench::cases::{self, Case};
+use bench::pictures::{Kind, ONE_BYTE, TWO_BYTES};
 use bench::stream::Stream;
 use std::process::{Command, Stdio};
 use std::time::{Duration, Instant};
@@ -60,8 +61,8 @@ fn program(path: &str, stream: &Stream) -> (f64, Vec<u8>) {
     (seconds, output)
 }
 
-fn programs(proved: &str, plain: &str) {
-    let stream = Stream::new(10_000).expect("the stream can be written");
+fn programs(proved: &str, plain: &str, what: &str, kind: Kind) {
+    let stream = Stream::new(10_000, kind).expect("the stream can be written");
     let (mut plains, mut proveds) = (Vec::new(), Vec::new());
     for _ in 0..PROGRAM_PAIRS {
         let (plain_time, plain_rows) = program(plain, &stream);
@@ -70,7 +71,7 @@ fn programs(proved: &str, plain: &str) {
         plains.push(plain_time);
         proveds.push(proved_time);
     }
-    row("frozen, 10,000 frames of 160 x 120", 1e3, "ms", plains, proveds);
+    row(&format!("frozen, 10,000 frames of {what}"), 1e3, "ms", plains, proveds);
 }
 
 fn main() {
@@ -78,5 +79,6 @@ fn main() {
     println!("| call | plain | proved | proved/plain | middle half |");
     println!("|---|---|---|---|---|");
     calls();
-    programs(&paths[0], &paths[1]);
+    programs(&paths[0], &paths[1], "160 x 120", ONE_BYTE);
+    programs(&paths[0], &paths[1], "120 x 90, maxval 4,095", TWO_BYTES);
 }

@@ -75,19 +75,31 @@ impl Cursor<'_> {
     }
 }
 
+/// Whether a pixel takes two bytes.
+pub(super) fn is_wide(maxval: usize) -> bool {
+    maxval > 255
+}
+
+/// The pixels of a raster in which each takes two bytes, the higher first.
+pub(super) fn pairs(raster: &[u8]) -> impl Iterator<Item = u16> + '_ {
+    raster.chunks_exact(2).map(|pair| u16::from_be_bytes(pair.try_into().expect("two bytes")))
+}
+
 #[inline(never)]
 pub fn header(bytes: &[u8]) -> Result<Image<'_>, Refusal> {
     let mut cursor = Cursor { bytes: &bytes[..bytes.len().min(LIMIT)], at: 0 };
     cursor.kind()?;
     let width = cursor.number(1024)?;
     let height = cursor.number(1024)?;
-    let maxval = cursor.number(255)?;
-    let used = cursor.at + width * height;
+    let maxval = cursor.number(65535)?;
+    let wide = is_wide(maxval);
+    let used = cursor.at + width * height * if wide { 2 } else { 1 };
     if used > LIMIT {
         return Err(Refusal::ImageTooLarge);
     }
     let raster = bytes.get(cursor.at..used).ok_or(Refusal::EndsTooEarly)?;
-    if raster.iter().copied().max().map_or(false, |pixel| usize::from(pixel) > maxval) {
+    let largest = if wide { pairs(raster).max() } else { raster.iter().copied().max().map(u16::from) };
+    if largest.map_or(false, |pixel| usize::from(pixel) > maxval) {
         return Err(Refusal::PixelTooLarge);
     }
     Ok(Image { width, height, maxval, used, raster })

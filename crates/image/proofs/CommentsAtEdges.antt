@@ -1,20 +1,22 @@
--- Comments at the edges: one that does not end before the slice or the limit does, one with no white byte behind it where one is needed, and
--- a `#` behind the delimiter, which is a pixel.
+-- Comments at the edges: one that does not end before the slice or the limit does, one with no white byte behind it where one is needed,
+-- and a `#` behind the delimiter, which is a pixel or a byte of one.
 -- Assumes nothing.
-use Prim.Native.Nat.{ℕ, _+_, _-_, _≤_, _<_}
+use Prim.Native.Nat.{ℕ, zero, suc, _+_, _*_, _-_, _≤_, _<_}
 use mathlib.Core.Bool.{false}
-use mathlib.Core.List.{List, _∷_, _++_}
+use mathlib.Core.List.{List, [], _∷_, _++_}
 use mathlib.Core.Logic.{inr}
 use mathlib.Core.Path.{_≡_, refl, ap, _∙_}
 use native.Mathlib.Omega.{arith}
+use native.Mathlib.Nat.{add-zero, mul-one, mul-le-mul-right}
 use borrow.Author.Tests.{eq-eqb}
-use lib.ListN.{length, take, drop, getD, length-take}
-use lib.Seq.{getD-take, getD-drop}
+use lib.ListN.{length, take, drop, getD, length-take, length-drop}
+use lib.Seq.{take-take, take-nil, drop-drop, getD-drop}
 use Rattle.refusals.specs.Numbers.{wrongByte, imageTooLarge, endsTooEarly}
 use Rattle.image.specs.Bytes.{letterP, hash, white}
 use Rattle.image.specs.Seen.{Seen, limit, visible, ahead, endOf}
 use Rattle.image.specs.Step.{stopped}
 use Rattle.image.specs.Fields.{oneOf, magic, headerFields}
+use Rattle.image.specs.Pixels.{pixelBytes, bytesValue, pixelAt}
 use Rattle.image.specs.Kinds.{Kind, pgm}
 use Rattle.image.specs.FirstFault.{RunsOut, seenIn}
 use Rattle.image.specs.Comments.{InLine, Comment, Without}
@@ -25,7 +27,8 @@ use Rattle.image.proofs.ReadingCases.{reading-stopped}
 use Rattle.image.proofs.HeaderFaults.{at-end, fault-stops}
 use Rattle.image.proofs.CommentsHidden.{comment-hidden, other-seen, first-two-seen}
 use Rattle.image.proofs.SeenWithoutComments.{slice-seen}
-use Rattle.image.proofs.Promises.{raster-length, pixel-byte}
+use Rattle.image.proofs.PixelValues.{pixel-pair}
+use Rattle.image.proofs.Promises.{raster-length, pixel-one, pixel-bytes-one, pixel-bytes-two, reading-lies}
 
 -- a comment that has begun where the first 24,576 bytes end, behind bytes that without comments can go on to be a header
 module _ (kind : Kind) (s bytes left text : List ℕ) (there : take limit s ≡ letterP ∷ kind .sign ∷ (bytes ++ (hash ∷ text)))
@@ -78,15 +81,55 @@ comment-no-white kind s bytes byte more there c w other =
     ap (headerFields (endOf s) (kind .sign) (kind .tests)) seen ∙ rw (eq-eqb (kind .sign) (kind .sign) refl, w) in
     ap (λ (r : Reading). r .refusal) (reading-stopped kind s stops)
 
--- behind the delimiter every byte of an accepted image's raster is a pixel, whatever it is
-pub byte-is-a-pixel : (s : List ℕ) (position : ℕ) → numbersOf s .refusal ≡ 0 → position < positionsOf s
-    → pixelOf s position ≡ getD s (numbersOf s .start + position) 0
-byte-is-a-pixel s position taken there =
-    let start = numbersOf s .start in
-    let size = numbersOf s .used - start in
-    let within : position < size = omega (arith, there, raster-length s taken, length-take size (drop start s)) in
-    pixel-byte s position ∙ getD-take size (drop start s) position 0 within ∙ getD-drop start s position 0
+-- bytes of a front, where the front has them all
+within-front : (count from size : ℕ) (l : List ℕ) → from + count ≤ size → take count (drop from (take size l)) ≡ take count (drop from l)
+within-front count zero size l fits = take-take count size l (omega arith)
+within-front count (suc from) size [] fits = ap (λ (l : List ℕ). take count (drop (suc from) l)) (take-nil size)
+within-front count (suc from) zero (byte ∷ later) fits = absurd (omega arith)
+within-front count (suc from) (suc size) (byte ∷ later) fits = within-front count from size later (omega arith)
 
-pub hash-is-a-pixel : (s : List ℕ) (position : ℕ) → numbersOf s .refusal ≡ 0 → position < positionsOf s
-    → getD s (numbersOf s .start + position) 0 ≡ hash → pixelOf s position ≡ hash
-hash-is-a-pixel s position taken there e = byte-is-a-pixel s position taken there ∙ e
+-- behind the delimiter the bytes of an accepted image's raster are its pixels, whatever they are
+module _ (s : List ℕ) (position : ℕ) (taken : numbersOf s .refusal ≡ 0) (there : position < positionsOf s) where
+  abbrev start : ℕ
+  start = numbersOf s .start
+
+  abbrev per : ℕ
+  per = pixelBytes (numbersOf s .maxval)
+
+  bytes-there : position * per + per ≤ numbersOf s .used - start
+  bytes-there =
+      omega (arith, mul-le-mul-right per there, raster-length s taken, length-take (numbersOf s .used - start) (drop start s))
+
+  pub bytes-are-a-pixel : pixelOf s position ≡ bytesValue 0 (take per (drop (start + position * per) s))
+  unfolding pixelOf pixelAt
+  bytes-are-a-pixel =
+      ap (bytesValue 0)
+      (within-front per (position * per) (numbersOf s .used - start) (drop start s) bytes-there
+      ∙ ap (take per) (drop-drop (position * per) start s))
+
+  -- of one byte, and of two
+  pixel-by-width : {width : ℕ} → per ≡ width → pixelOf s position ≡ bytesValue 0 (take width (drop (start + position * width) s))
+  pixel-by-width is-width = bytes-are-a-pixel ∙ ap (λ (k : ℕ). bytesValue 0 (take k (drop (start + position * k) s))) is-width
+
+  pub byte-is-a-pixel : numbersOf s .maxval ≤ 255 → pixelOf s position ≡ getD s (start + position) 0
+  unfolding pixelAt
+  byte-is-a-pixel low =
+      pixel-by-width (pixel-bytes-one (numbersOf s .maxval) low)
+      ∙ pixel-one (drop (start + position * 1) s) 0 ∙ rw (getD-drop, add-zero, mul-one)
+
+  pub hash-is-a-pixel : numbersOf s .maxval ≤ 255 → getD s (start + position) 0 ≡ hash → pixelOf s position ≡ hash
+  hash-is-a-pixel low e = byte-is-a-pixel low ∙ e
+
+  pub pair-is-a-pixel : 255 < numbersOf s .maxval
+      → pixelOf s position ≡ getD s (start + position * 2) 0 * 256 + getD s (start + position * 2 + 1) 0
+  unfolding pixelAt
+  pair-is-a-pixel high =
+      let two = pixel-bytes-two (numbersOf s .maxval) high in
+      let from = start + position * 2 in
+      let long : 2 ≤ length (drop from s) =
+      rw length-drop (omega (arith, bytes-there, ap (λ (k : ℕ). position * k) two, reading-lies s .there)) in
+      pixel-by-width two ∙ pixel-pair (drop from s) long ∙ rw (getD-drop from s 0 0, getD-drop from s 1 0, add-zero)
+
+  pub hash-begins-a-pixel : 255 < numbersOf s .maxval → getD s (start + position * 2) 0 ≡ hash
+      → pixelOf s position ≡ hash * 256 + getD s (start + position * 2 + 1) 0
+  hash-begins-a-pixel high e = pair-is-a-pixel high ∙ ap (λ (byte : ℕ). byte * 256 + getD s (start + position * 2 + 1) 0) e

@@ -1,4 +1,4 @@
--- Demand 1 and uniqueness of both calls: what each one's statement says is what its row says.
+-- Uniqueness of all calls, and demand 1 of those that read an image: what each one's statement says is what its row says.
 -- Of the raster two references can be told apart only by the name that the program logic gives each loan, which no program sees: what is
 -- settled is all that one can see, the place and the bytes. No number can be read off a part, so that of the raster demand 1 is
 -- `raster-refused`.
@@ -21,6 +21,7 @@ use Rattle.image.specs.Part.{Part, partOf, cut, rasterOf, emptyPart, ras
 use Rattle.image.proofs.ReadingLies.{refused-reading}
 use Rattle.image.proofs.header.Reads as header-reads
 use Rattle.image.proofs.raster.Reads as raster-reads
+use Rattle.image.proofs.pair_value.Reads as pair-value-reads
 
 -- promise 1.3: a refused reading has nothing but its refusal …
 pub refused-all-zero : (s : List ℕ) → (numbersOf s .refusal ≡ 0 → ⊥) → numbersOf s ≡ refusedWith (numbersOf s .refusal)
@@ -77,6 +78,10 @@ module _ (κs : Lfts 1) where
   raster-settled =
       settled (raster-reads.Post κs) partOf (λ a e. now (a .0)) (λ a. rasterCall (a .0))
       (λ a r e p. (p ∙ sym (raster-result (a .0)), asks-leaves (rasterCall (a .0)) refl))
+
+  -- uniqueness of `pair_value`, which refuses nothing
+  pub pair-value-settled : Settles (pair-value-reads.Post κs) (λ r. r) (λ a e. now (a .0))
+  pair-value-settled a r r′ e e′ p p′ = (p ∙ sym p′, refl)
 
 -- promise 1.2: of the raster's faults, in an image of any kind, the first that holds gives the refusal (those of the header come in the order
 -- of its bytes)

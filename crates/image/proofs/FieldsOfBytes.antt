@@ -89,7 +89,7 @@ unfolding upTo
 up-to-range top value e = between 1 top value e
 
 -- a number above every range may stand for any other such number
-up-to-above : (top value : ℕ) → top < value → upTo top value ≡ false
+pub up-to-above : (top value : ℕ) → top < value → upTo top value ≡ false
 unfolding upTo
 up-to-above top value h = rw (lt-leb value top h) (by (leb 1 value))
   where

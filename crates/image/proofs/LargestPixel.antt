@@ -1,32 +1,16 @@
--- Pixels of one byte; the largest of some pixels; and a test that holds at some position, of which "some pixel is above maxval" is one:
+-- The largest of some pixels, and a test that holds at some position, of which "some pixel is above maxval" is one:
 -- it is so exactly where the largest pixel is.
 -- Assumes nothing.
-use Prim.Native.Nat.{ℕ, zero, suc, _+_, _*_, _≤_, _<_, max}
+use Prim.Native.Nat.{ℕ, zero, suc, _+_, _*_, _<_, max}
 use mathlib.Core.Bool.{Bool, true, false, _||_}
-use mathlib.Core.List.{List}
 use mathlib.Core.Path.{_≡_, refl, sym, ap, ap₂, _∙_}
 use native.Mathlib.Omega.{arith}
-use native.Mathlib.Nat.{mul-one, add-zero, add-suc}
+use native.Mathlib.Nat.{add-zero, add-suc}
 use native.Mathlib.Numerals.{add-one}
 use borrow.Author.Tests.{leb-true, leb-false, lt-ltb, le-ltb, ltb-true, ltb-false}
 use lib.Dec.{leb, ltb}
-use lib.ListN.{length, take, drop, getD, drop-of-length-le, List·getD-eq-default}
-use lib.Seq.{drop-cons}
-use Rattle.image.specs.Pixels.{bytesValue, pixelAt, atSome}
+use Rattle.image.specs.Pixels.{atSome}
 use Rattle.image.specs.Told.{largest}
-
--- a pixel of one byte is the byte at its position
-pub pixel-one : (raster : List ℕ) (position : ℕ) → pixelAt 1 raster position ≡ getD raster position 0
-unfolding pixelAt bytesValue
-pixel-one raster position = rw (mul-one position) (by (leb (length raster) position) refl)
-  where
-    by : (b : Bool) → leb (length raster) position ≡ b → bytesValue 0 (take 1 (drop position raster)) ≡ getD raster position 0
-    by true e =
-        let over : length raster ≤ position = leb-true (length raster) position e in
-        rw (drop-of-length-le raster over, List·getD-eq-default raster 0 over)
-    by false e =
-        let there : position < length raster = leb-false (length raster) position e in
-        rw (drop-cons raster position 0 there) (omega arith)
 
 pub largest-none : (pixel : ℕ → ℕ) → largest pixel 0 ≡ 0
 unfolding largest
@@ -37,10 +21,10 @@ unfolding largest
 largest-more pixel count = refl
 
 -- one pixel more
-pub largest-on : (pixel : ℕ → ℕ) (count : ℕ) {most byte new : ℕ} → new ≡ max most byte → most ≡ largest pixel count → byte ≡ pixel count
+pub largest-on : (pixel : ℕ → ℕ) (count : ℕ) {most last new : ℕ} → new ≡ max most last → most ≡ largest pixel count → last ≡ pixel count
     → new ≡ largest pixel (count + 1)
-largest-on pixel count is-new is-most is-byte =
-    rw (add-one count, largest-more pixel count) (is-new ∙ ap₂ max is-most is-byte)
+largest-on pixel count is-new is-most is-last =
+    rw (add-one count, largest-more pixel count) (is-new ∙ ap₂ max is-most is-last)
 
 -- the largest pixel of some and of those behind them
 pub largest-join : (pixel : ℕ → ℕ) (m n : ℕ) → largest pixel (m + n) ≡ max (largest pixel m) (largest (λ k. pixel (m + k)) n)

@@ -4,7 +4,9 @@ pub mod KindsOfBytes
 pub mod FieldsOfBytes
 pub mod NumberUnderWay
 pub mod AnswersTell
+pub mod PixelValues
 pub mod LargestPixel
+pub mod PixelWidths
 pub mod RasterFaults
 pub mod ReadingLies
 pub mod Demand1
@@ -33,6 +35,8 @@ pub mod CommentsParted
 pub mod SeenWithoutComments
 pub mod CommentedHeaders
 pub mod ReadAsBefore
+pub mod LastTest
+pub mod ReadAsOneByte
 pub mod OwnLines
 pub mod RoundTrip
 pub mod Promises

@@ -1,20 +1,27 @@
--- What crates above may rely on, beside the definitions of specs/: what an accepted image is, where its raster lies, that each of its bytes
--- is a pixel, and that an answer stays when more bytes come.
+-- What crates above may rely on, beside the definitions of specs/: what an accepted image is, where its raster lies, which of its bytes
+-- are which pixel, and that an answer stays when more bytes come.
 -- Assumes nothing.
-use Prim.Native.Nat.{ℕ, _*_, _-_, _≤_, _<_}
+use Prim.Native.Nat.{ℕ, _*_, _-_, _/_, _≤_, _<_}
 use mathlib.Core.List.{List}
-use mathlib.Core.Path.{_≡_, _∙_}
+use mathlib.Core.Path.{_≡_, refl, _∙_}
 use native.Mathlib.Omega.{arith}
-use native.Mathlib.Nat.{mul-one}
-use lib.ListN.{length, drop, getD, length-drop}
+use native.Mathlib.Nat.{mul-div-cancel}
+use lib.ListN.{length, drop, length-drop}
 use lib.Seq.{length-take-le}
+use Rattle.image.specs.Tests.{upTo}
 use Rattle.image.specs.Seen.{limit}
-use Rattle.image.specs.Kinds.{pgm}
+use Rattle.image.specs.Pixels.{pixelBytes, pixelAt}
+use Rattle.image.specs.Kinds.{pgm, largestMaxval}
 use Rattle.image.specs.Format.{AllPass}
 use Rattle.image.specs.Reading.{readingOf, numbersOf, rasterIn, positionsOf, pixelOf}
+use Rattle.image.proofs.PixelWidths.{pixel-bytes-range}
+use Rattle.image.proofs.FieldsOfBytes.{up-to-range}
 use Rattle.image.proofs.HeadedSlices.{headed-some}
-use Rattle.image.proofs.LargestPixel.{pixel-one}
+use Rattle.image.proofs.ReadAsOneByte.{maxval-passes}
 use Rattle.image.proofs.ExactReading.{image-headed, image-used}
+pub use Rattle.image.proofs.PixelValues.{pixel-one, pixel-part}
+pub use Rattle.image.proofs.PixelWidths.{pixel-bytes-one, pixel-bytes-two}
+pub use Rattle.image.proofs.ReadAsOneByte.{numbers-as-one-byte}
 pub use Rattle.image.proofs.ReadingLies.{reading-lies}
 pub use Rattle.image.proofs.Demand1.{refused-all-zero, header-result}
 pub use Rattle.image.proofs.RefusalRange.{refusal-range, waits-short}
@@ -26,6 +33,12 @@ module _ (s : List ℕ) (taken : numbersOf s .refusal ≡ 0) where
   -- the numbers of an accepted image pass their tests
   pub accepted-range : AllPass (pgm .tests) (readingOf pgm s .numbers)
   accepted-range = accepted-is-pgm s taken .head .header .passes
+
+  -- so its maxval is in range
+  pub maxval-range : numbersOf s .maxval ≤ largestMaxval
+  unfolding numbersOf pgm
+  maxval-range =
+      up-to-range largestMaxval (numbersOf s .maxval) (maxval-passes (upTo largestMaxval) (readingOf pgm s .numbers) accepted-range .0) .1
 
   -- it takes a byte at least
   pub used-some : 0 < numbersOf s .used
@@ -52,13 +65,18 @@ pub same-positions : (first second : List ℕ) → numbersOf first .width ≡ nu
 unfolding positionsOf
 same-positions first second width height = λ i. width i * height i
 
--- one byte for each position, which is its pixel
-pub raster-length : (s : List ℕ) → numbersOf s .refusal ≡ 0 → length (rasterIn s) ≡ positionsOf s
+-- the bytes of each position, and the pixel that they are
+pub raster-length : (s : List ℕ) → numbersOf s .refusal ≡ 0 → length (rasterIn s) ≡ positionsOf s * pixelBytes (numbersOf s .maxval)
 unfolding positionsOf numbersOf pgm
-raster-length s taken =
-    let p = accepted-is-pgm s taken in
-    raster-fits s ∙ omega (arith, image-used pgm s p, mul-one (numbersOf s .width * numbersOf s .height))
+raster-length s taken = raster-fits s ∙ omega (arith, image-used pgm s (accepted-is-pgm s taken))
 
-pub pixel-byte : (s : List ℕ) (position : ℕ) → pixelOf s position ≡ getD (rasterIn s) position 0
+pub raster-positions : (s : List ℕ) → numbersOf s .refusal ≡ 0 → length (rasterIn s) / pixelBytes (numbersOf s .maxval) ≡ positionsOf s
+raster-positions s taken = rw (raster-length s taken) (mul-div-cancel (positionsOf s) (pixel-bytes-range (numbersOf s .maxval) .0))
+
+pub positions-of : (s : List ℕ) → positionsOf s ≡ numbersOf s .width * numbersOf s .height
+unfolding positionsOf
+positions-of s = refl
+
+pub pixel-of : (s : List ℕ) (position : ℕ) → pixelOf s position ≡ pixelAt (pixelBytes (numbersOf s .maxval)) (rasterIn s) position
 unfolding pixelOf
-pixel-byte s position = pixel-one (rasterIn s) position
+pixel-of s position = refl

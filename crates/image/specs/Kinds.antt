@@ -34,7 +34,7 @@ abbrev pub largestSide : ℕ
 largestSide = 1024
 
 abbrev pub largestMaxval : ℕ
-largestMaxval = 255
+largestMaxval = 65535
 
 -- the binary PGM of SCOPE, Images: `P5`, width, height, maxval; row by row; no pixel above maxval
 unfoldable pub pgm : Kind

@@ -13,5 +13,6 @@ pub mod FirstFault
 pub mod Comments
 pub mod OtherReaders
 pub mod Before
+pub mod OneByte
 pub mod Promised
 pub mod Text

@@ -1,12 +1,13 @@
 -- A raster and its pixels (SCOPE, Images). How many bytes a pixel takes is handed in as `per`.
 use Prim.Native.Nat.{ℕ, zero, suc, _+_, _*_}
-use mathlib.Core.Bool.{Bool, false, _||_}
+use mathlib.Core.Bool.{Bool, false, _||_, cond}
 use mathlib.Core.List.{List, [], _∷_}
+use lib.Dec.{ltb}
 use lib.ListN.{take, drop}
 
--- the bytes of a pixel in an image of this maxval: one, here alone
-abbrev pub pixelBytes : (maxval : ℕ) → ℕ
-pixelBytes maxval = 1
+-- the bytes of a pixel in an image of this maxval: above 255 there are two
+unfoldable pub pixelBytes : (maxval : ℕ) → ℕ
+pixelBytes maxval = cond (ltb 255 maxval) 2 1
 
 -- the number that a pixel's bytes write, the highest byte first
 unfoldable pub bytesValue : ℕ → List ℕ → ℕ

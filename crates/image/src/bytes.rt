@@ -50,7 +50,7 @@ fn end_of(s: &[u8]) -> u8
     ENDS_TOO_EARLY
 }
 
-// The bytes that a header may be read from: those of the slice, up to the limit.
+// The bytes that an image may be read from: those of the slice, up to the limit.
 pub(crate) fn readable(s: &[u8]) -> usize
     ensures { λ r. ⌜ r ≡ min limit (length (now (s .entry))) ⌝ }
 {

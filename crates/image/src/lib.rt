@@ -3,9 +3,11 @@
 ghost use mathlib.Core.Path.{_≡_};
 ghost use Rattle.image.specs.Reading.{numbersOf};
 ghost use Rattle.image.specs.Part.{partOf, rasterOf};
+ghost use Rattle.image.specs.Pixels.{pixelAt};
 
 mod bytes;
 mod fields;
+mod pairs;
 mod pixels;
 
 // The byte of the sign behind `P`, and the largest numbers, as specs/Kinds.antt has them.
@@ -13,7 +15,7 @@ const GRAY: usize = 53;
 
 const LARGEST_SIDE: usize = 1024;
 
-const LARGEST_MAXVAL: usize = 255;
+const LARGEST_MAXVAL: usize = 65535;
 
 // The numbers of an image: the raster lies in the bytes from `start` up to `used`. With a refusal all others are 0.
 #[repr(C)]
@@ -45,4 +47,17 @@ pub fn raster(s: &[u8]) -> &[u8]
     let start = numbers.start;
     let used = numbers.used;
     &s[start..used]
+}
+
+// The first pixel of bytes in which each pixel takes two, the higher first; a byte that is not there writes nothing.
+pub fn pair_value(bytes: &[u8]) -> u16
+    ensures { λ r. ⌜ r ≡ pixelAt 2 (now (bytes .entry)) 0 ⌝ }
+{
+    if bytes.len() == 0 {
+        return 0;
+    }
+    if bytes.len() == 1 {
+        return bytes[0] as u16;
+    }
+    pairs::turned(pairs::low_first(bytes))
 }

@@ -13,15 +13,16 @@ ghost use Rattle.image.specs.Reading.{refusedWith, named, withRaster};
 use crate::Numbers;
 use crate::bytes::LIMIT;
 use crate::bytes::Took;
+use crate::bytes::readable;
+use crate::pairs;
 use refusals::ENDS_TOO_EARLY;
 use refusals::IMAGE_TOO_LARGE;
 use refusals::PIXEL_TOO_LARGE;
 
-// A pixel takes so many bytes.
-const PIXEL_BYTES: usize = 1;
+// The largest pixel of one byte, and of two. Where maxval is as large, no pixel is above it, and they need no look.
+const BYTE_MOST: usize = 255;
 
-// The largest maxval. No byte is above it, so that such an image's pixels need no look.
-const MOST: usize = 255;
+const PAIR_MOST: usize = 65535;
 
 pub(crate) fn refused(refusal: u8) -> Numbers
     ensures { λ r. ⌜ r ≡ refusedWith refusal ⌝ }
@@ -63,28 +64,43 @@ fn largest_of_quarters(raster: &[u8], quarter: usize) -> u8
     larger(larger(first, second), larger(third, fourth))
 }
 
-// The largest pixel: up to three of them are left behind the quarters.
-fn largest_of(raster: &[u8]) -> u8
-    ensures { λ r. ⌜ r ≡ largest (pixelAt 1 (now (raster .entry))) (length (now (raster .entry))) ⌝ }
+// The largest of the first `count` pixels: up to three of them are left behind the quarters.
+fn largest_of(raster: &[u8], count: usize) -> u8
+    requires { ⌜ count ≤ length (now raster) ⌝ }
+    ensures { λ r. ⌜ r ≡ largest (pixelAt 1 (now (raster .entry))) count ⌝ }
 {
-    let quarter = raster.len() / 4;
+    let quarter = count / 4;
     let mut most = largest_of_quarters(raster, quarter);
     let mut i = 4 * quarter;
-    while i < raster.len() {
+    while i < count {
         most = larger(most, raster[i]);
         i += 1;
     }
     most
 }
 
-// Whether a pixel of the raster is above maxval.
-fn too_large(raster: &[u8], maxval: usize) -> bool
-    ensures { λ r. ⌜ r ≡ atSome (λ position. ltb maxval (pixelAt (pixelBytes maxval) (now (raster .entry)) position)) (length (now (raster .entry))) ⌝ }
+// The bytes of a pixel.
+fn pixel_bytes(maxval: usize) -> usize
+    ensures { λ r. ⌜ r ≡ pixelBytes maxval ⌝ }
 {
-    if MOST <= maxval {
+    if BYTE_MOST < maxval { 2 } else { 1 }
+}
+
+// Whether a pixel of the raster is above maxval.
+fn too_large(raster: &[u8], positions: usize, maxval: usize) -> bool
+    requires { ⌜ length (now raster) ≡ positions * pixelBytes maxval ⌝ }
+    ensures { λ r. ⌜ r ≡ atSome (λ position. ltb maxval (pixelAt (pixelBytes maxval) (now (raster .entry)) position)) positions ⌝ }
+{
+    if maxval == BYTE_MOST {
         return false;
     }
-    maxval < largest_of(raster) as usize
+    if maxval < BYTE_MOST {
+        return maxval < largest_of(raster, positions) as usize;
+    }
+    if PAIR_MOST <= maxval {
+        return false;
+    }
+    maxval < pairs::largest_of(raster, positions) as usize
 }
 
 // The answer for a header that has these numbers and takes `start` bytes.
@@ -92,14 +108,15 @@ fn judge(s: &[u8], width: usize, height: usize, maxval: usize, start: usize) -> 
     requires { ⌜ (width ≤ largestSide) × (height ≤ largestSide) × (start ≤ limit) ⌝ }
     ensures { λ r. ⌜ r ≡ named (withRaster pgm (now (s .entry)) (width ∷ height ∷ maxval ∷ []) start) ⌝ }
 {
-    let used = start + width * height * PIXEL_BYTES;
-    if LIMIT < used {
-        return refused(IMAGE_TOO_LARGE);
-    }
-    if s.len() < used {
+    let positions = width * height;
+    let used = start + positions * pixel_bytes(maxval);
+    if readable(s) < used {
+        if LIMIT < used {
+            return refused(IMAGE_TOO_LARGE);
+        }
         return refused(ENDS_TOO_EARLY);
     }
-    if too_large(&s[start..used], maxval) {
+    if too_large(&s[start..used], positions, maxval) {
         return refused(PIXEL_TOO_LARGE);
     }
     Numbers {

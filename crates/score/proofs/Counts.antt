@@ -1,21 +1,11 @@
--- Counts of the positions that pass a test, and when pixels moved.
+-- Counts of the positions that pass a test.
 -- Assumes nothing.
 use Prim.Native.Nat.{ℕ, zero, suc, _+_, _≤_, _<_}
-use mathlib.Core.Bool.{Bool, true, false}
+use mathlib.Core.Bool.{Bool, true, false, not}
 use mathlib.Core.Path.{_≡_, refl, sym, ap, _∙_}
 use native.Mathlib.Omega.{arith}
 use native.Mathlib.Numerals.{add-one}
-use borrow.Author.Tests.{lt-ltb, le-ltb}
-use Rattle.score.specs.Changed.{apart, moved, oneIf, counted}
-
--- pixels moved from a difference of one more than the allowance on
-pub far-moved : (allowance x y : ℕ) → allowance < apart x y → moved allowance x y ≡ true
-unfolding moved
-far-moved allowance x y h = lt-ltb allowance _ (omega arith)
-
-pub near-still : (allowance x y : ℕ) → apart x y ≤ allowance → moved allowance x y ≡ false
-unfolding moved
-near-still allowance x y h = le-ltb allowance _ (omega arith)
+use Rattle.score.specs.Changed.{oneIf, counted}
 
 -- a position counts once at most
 pub one-at-most : (holds : Bool) → oneIf holds ≤ 1
@@ -72,3 +62,15 @@ counted-same test test′ count same =
       counted-fewer test test′ count (λ position lt holds. sym (same position lt) ∙ holds),
       counted-fewer test′ test count (λ position lt holds. same position lt ∙ holds),
     )
+
+oneIf-not : (holds : Bool) → oneIf holds + oneIf (not holds) ≡ 1
+oneIf-not true = refl
+oneIf-not false = refl
+
+-- what does not pass a test are all other positions
+pub counted-others : (test others : ℕ → Bool) (count : ℕ) → ((position : ℕ) → others position ≡ not (test position))
+    → counted test count + counted others count ≡ count
+unfolding counted
+counted-others test others zero opposite = refl
+counted-others test others (suc count) opposite =
+    omega (arith, counted-others test others count opposite, oneIf-not (test count), ap oneIf (opposite count))

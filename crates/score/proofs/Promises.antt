@@ -1,17 +1,17 @@
 -- What crates above may rely on, beside the definitions of specs/: a score is at most L and at most the number of positions; it does not
 -- matter which image comes first; an image against itself scores 0; how positions that pass a test count.
 -- Assumes nothing.
-use Prim.Native.Nat.{ℕ, _≤_}
+use Prim.Native.Nat.{ℕ, _*_, _≤_}
 use mathlib.Core.List.{List}
 use mathlib.Core.Path.{_≡_, ap}
 use native.Mathlib.Omega.{arith}
 use lib.Dec.{ltb}
 use Rattle.refusals.specs.Call.{resultOf}
 use Rattle.refusals.proofs.Calls.{result-cases}
-use Rattle.image.specs.Reading.{positionsOf, pixelOf}
+use Rattle.image.specs.Reading.{numbersOf, positionsOf, pixelOf}
 use Rattle.score.specs.Changed.{apart, moved, movedAt, counted}
 use Rattle.score.specs.Calls.{scoreNumber, scoreCall}
-use Rattle.score.proofs.Counts.{near-still}
+use Rattle.score.proofs.Near.{within-still}
 pub use Rattle.score.proofs.Counts.{counted-none, counted-more, counted-le, counted-nowhere, counted-fewer, counted-same}
 pub use Rattle.score.proofs.Refused.{none-alike}
 pub use Rattle.score.proofs.Scored.{refusal-is}
@@ -29,23 +29,23 @@ module _ (bound allowance : ℕ) (first second : List ℕ) where
   unfolding scoreCall scoreNumber
   score-le-positions =
       result-cases (λ r. r .value ≤ positionsOf first) (scoreCall bound allowance first second)
-      (λ e. omega (arith, counted-le (movedAt allowance (pixelOf first) (pixelOf second)) (positionsOf first)))
+      (λ e. omega (arith, counted-le (movedAt allowance (numbersOf first .maxval) (pixelOf first) (pixelOf second)) (positionsOf first)))
       (λ number e. omega arith)
 
 swapped : (x y : ℕ) → apart x y ≡ apart y x
 swapped x y = omega arith
 
-moved-either-way : (allowance x y : ℕ) → moved allowance x y ≡ moved allowance y x
+moved-either-way : (allowance maxval x y : ℕ) → moved allowance maxval x y ≡ moved allowance maxval y x
 unfolding moved
-moved-either-way allowance x y = ap (ltb allowance) (swapped x y)
+moved-either-way allowance maxval x y = ap (λ d. ltb (allowance * maxval) (d * 255)) (swapped x y)
 
 -- the count is the same the other way round
-pub changed-either-way : (allowance : ℕ) (first second : ℕ → ℕ) (count : ℕ)
-    → counted (movedAt allowance first second) count ≡ counted (movedAt allowance second first) count
-changed-either-way allowance first second count =
-    counted-same _ _ count (λ position lt. moved-either-way allowance (first position) (second position))
+pub changed-either-way : (allowance maxval : ℕ) (first second : ℕ → ℕ) (count : ℕ)
+    → counted (movedAt allowance maxval first second) count ≡ counted (movedAt allowance maxval second first) count
+changed-either-way allowance maxval first second count =
+    counted-same _ _ count (λ position lt. moved-either-way allowance maxval (first position) (second position))
 
 -- nothing changed between an image and itself
-pub changed-self : (allowance : ℕ) (pixel : ℕ → ℕ) (count : ℕ) → counted (movedAt allowance pixel pixel) count ≡ 0
-changed-self allowance pixel count =
-    counted-nowhere _ count (λ position lt. near-still allowance (pixel position) (pixel position) (omega arith))
+pub changed-self : (allowance maxval : ℕ) (pixel : ℕ → ℕ) (count : ℕ) → counted (movedAt allowance maxval pixel pixel) count ≡ 0
+changed-self allowance maxval pixel count =
+    counted-nowhere _ count (λ position lt. within-still allowance maxval (pixel position) (pixel position) (omega arith))

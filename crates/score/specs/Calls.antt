@@ -29,21 +29,26 @@ abbrev pub scoreFaults : ℕ → Numbers → Numbers → List Fault
 scoreFaults bound one two =
     (outside 1 largestBound bound gives badBound) ∷ passedOn (one .refusal) ∷ passedOn (two .refusal) ∷ differFaults one two
 
--- the number of positions whose pixels differ by more than the allowance, or L if that number is larger
+-- the number of positions whose pixels differ by more than the allowance, or L if that number is larger; both images have one maxval
 unfoldable pub scoreNumber : ℕ → ℕ → List ℕ → List ℕ → ℕ
 scoreNumber bound allowance first second =
-    min bound (counted (movedAt allowance (pixelOf first) (pixelOf second)) (positionsOf first))
+    min bound (counted (movedAt allowance (numbersOf first .maxval) (pixelOf first) (pixelOf second)) (positionsOf first))
 
--- the call: the score, or a refusal with the number 0; both images are lent only to be read
-unfoldable pub scoreCall : ℕ → ℕ → List ℕ → List ℕ → Call Answer (List ℕ × List ℕ)
-scoreCall bound allowance first second =
+-- the call, by the numbers of two images and what their score is: the score, or a refusal with the number 0; both images are lent only to be
+-- read
+abbrev pub scoreRow : ℕ → (one two : Numbers) (first second : List ℕ) (score : ℕ) → Call Answer (List ℕ × List ℕ)
+scoreRow bound one two first second score =
     record {
-      faults = scoreFaults bound (numbersOf first) (numbersOf second);
-      given = record { refusal = 0; value = scoreNumber bound allowance first second };
+      faults = scoreFaults bound one two;
+      given = record { refusal = 0; value = score };
       left = (first, second);
       back = λ number. record { refusal = number; value = 0 };
       lent = (first, second);
     }
+
+unfoldable pub scoreCall : ℕ → ℕ → List ℕ → List ℕ → Call Answer (List ℕ × List ℕ)
+scoreCall bound allowance first second =
+    scoreRow bound (numbersOf first) (numbersOf second) first second (scoreNumber bound allowance first second)
 
 -- two images that may be compared
 pub record Alike (one two : Numbers) : Type 0 where

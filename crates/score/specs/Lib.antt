@@ -1,3 +1,4 @@
 pub mod Changed
-pub mod Bytes
+pub mod Near
 pub mod Calls
+pub mod Before

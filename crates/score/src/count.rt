@@ -1,59 +1,45 @@
-// Counting the positions that changed.
+// Counting the positions that changed: all of them but those that stayed within one threshold. (Of bytes a processor compares "no more
+// than" in one instruction, and "more than" in two.)
 ghost use mathlib.Core.Path.{_≡_};
-ghost use Prim.Native.Nat.{_+_, _≤_, _<_, min};
+ghost use Prim.Native.Nat.{_≤_, min};
 ghost use lib.ListN.{length};
-ghost use Rattle.score.specs.Changed.{apart, moved, oneIf, counted};
-ghost use Rattle.score.specs.Bytes.{bytesMoved};
+ghost use Rattle.score.specs.Near.{thresholdOf, changedIn};
+use crate::bytes;
+use crate::pairs;
 
-fn apart(x: u8, y: u8) -> u8
-    ensures { λ r. ⌜ r ≡ apart x y ⌝ }
+// The largest maxval of images with one byte a pixel.
+const BYTE_MOST: usize = 255;
+
+// The largest difference that does not count.
+fn threshold(allowance: u8, maxval: usize) -> usize
+    requires { ⌜ maxval ≤ 65535 ⌝ }
+    ensures { λ r. ⌜ r ≡ thresholdOf allowance maxval ⌝ }
 {
-    if x < y { y - x } else { x - y }
+    allowance as usize * maxval / 255
 }
 
-// 1 for pixels that differ by more than the allowance, else 0.
-fn moved(allowance: u8, x: u8, y: u8) -> u8
-    ensures { λ r. ⌜ r ≡ oneIf (moved allowance x y) ⌝ }
+// The same of one byte. (At maxval 255 it is the allowance itself. Said so, the loop that compares with it is shorter.)
+fn byte_threshold(allowance: u8, maxval: usize) -> u8
+    requires { ⌜ maxval ≤ 255 ⌝ }
+    ensures { λ r. ⌜ r ≡ thresholdOf allowance maxval ⌝ }
 {
-    if allowance < apart(x, y) { 1 } else { 0 }
-}
-
-// Where the positions from here on that are counted in one go end.
-fn block_end(from: usize, len: usize) -> usize
-    requires { ⌜ from < len ⌝ }
-    ensures { λ r. ⌜ (from < r) × (r ≤ len) × (r ≤ from + 192) ⌝ }
-{
-    if len - from < 192 { len } else { from + 192 }
-}
-
-// The positions from one place up to another at which two rasters of one size changed. One pass with nothing in it but a compare and
-// a sum; so few positions that 8 bits hold the sum, which lets a vector register take as many of them as it has bytes.
-fn changed_between(first: &[u8], second: &[u8], allowance: u8, from: usize, to: usize) -> u8
-    requires { ⌜ (length (now first) ≡ length (now second)) × (from ≤ to) × (to ≤ length (now first)) × (to ≤ from + 255) ⌝ }
-    ensures { λ r. ⌜ counted (bytesMoved allowance (now (first .entry)) (now (second .entry))) from + r ≡ counted (bytesMoved allowance (now (first .entry)) (now (second .entry))) to ⌝ }
-{
-    let mut count: u8 = 0;
-    let mut i = from;
-    while i < to {
-        count += moved(allowance, first[i], second[i]);
-        i += 1;
+    if maxval == BYTE_MOST {
+        return allowance;
     }
-    count
+    threshold(allowance, maxval) as u8
 }
 
-// The positions at which two rasters of one size changed, some at a time.
-pub(crate) fn changed(first: &[u8], second: &[u8], allowance: u8) -> u16
-    requires { ⌜ (length (now first) ≡ length (now second)) × (length (now first) ≤ 24576) ⌝ }
-    ensures { λ r. ⌜ r ≡ counted (bytesMoved allowance (now (first .entry)) (now (second .entry))) (length (now (first .entry))) ⌝ }
+// The positions at which two rasters of one size changed.
+pub(crate) fn changed(first: &[u8], second: &[u8], allowance: u8, maxval: usize) -> u16
+    requires { ⌜ (length (now first) ≡ length (now second)) × (length (now first) ≤ 24576) × (maxval ≤ 65535) ⌝ }
+    ensures { λ r. ⌜ r ≡ changedIn allowance maxval (now (first .entry)) (now (second .entry)) ⌝ }
 {
-    let mut count: u16 = 0;
-    let mut i = 0;
-    while i < first.len() {
-        let to = block_end(i, first.len());
-        count += changed_between(first, second, allowance, i, to) as u16;
-        i = to;
+    if maxval <= BYTE_MOST {
+        let near = bytes::near_of(first, second, byte_threshold(allowance, maxval));
+        return first.len() as u16 - near;
     }
-    count
+    let near = pairs::near_of(first, second, threshold(allowance, maxval) as u16);
+    (first.len() / 2) as u16 - near
 }
 
 // The number, or the bound where the number is larger.

@@ -1,11 +1,13 @@
-// How much changed between two images: the number of positions whose pixels differ by more than an allowance.
+// How much changed between two images: the number of positions whose pixels differ by more than an allowance, in parts of 255 of maxval.
 // Every call answers; what it answers is defined in specs/Calls.antt.
 ghost use mathlib.Core.Path.{_≡_};
 ghost use Rattle.refusals.specs.Call.{resultOf};
 ghost use Rattle.score.specs.Calls.{scoreCall};
 
+mod bytes;
 mod count;
 mod judge;
+mod pairs;
 
 // A number, or a refusal with the number 0.
 #[repr(C)]
@@ -28,7 +30,7 @@ pub fn score(bound: u64, allowance: u8, first: &[u8], second: &[u8]) -> Answer
     let to = one.used;
     let start = two.start;
     let end = two.used;
-    let number = count::changed(&first[from..to], &second[start..end], allowance);
+    let number = count::changed(&first[from..to], &second[start..end], allowance, one.maxval);
     Answer {
         refusal: 0,
         value: count::at_most(bound, number),

@@ -16,7 +16,7 @@ pub extern "C" fn uprzezar_header(bytes: &[u8]) -> Numbers
     image::header(bytes)
 }
 
-// Where its raster lies.
+// Where its raster lies, in bytes.
 #[no_mangle]
 pub extern "C" fn uprzezar_raster(bytes: &[u8]) -> Raster
     ensures { λ r. ⌜ r ≡ rasterPlace (now (bytes .entry)) ⌝ }
@@ -29,7 +29,7 @@ pub extern "C" fn uprzezar_raster(bytes: &[u8]) -> Raster
     }
 }
 
-// The score of two images under an allowance, or `bound` where the score is larger.
+// The score of two images under an allowance, which is in parts of 255 of maxval, or `bound` where the score is larger.
 #[no_mangle]
 pub extern "C" fn uprzezar_score(
     bound: u64,

@@ -4,18 +4,18 @@ use Prim.Native.Nat.{_-_, _≤_}
 use mathlib.Core.Path.{_≡_, sym, ap, _∙_}
 use native.Mathlib.Omega.{arith}
 use denote.Ref.{now}
-use lib.ListN.{length}
 use Rattle.image.specs.Pixels.{pixelAt}
 use Rattle.image.specs.Told.{largest}
-use Rattle.image.proofs.LargestPixel.{pixel-one, largest-on}
+use Rattle.image.proofs.PixelValues.{pixel-one}
+use Rattle.image.proofs.LargestPixel.{largest-on}
 use Rattle.image.proofs.pixels.largest_of.Statement.{statement}
 use Rattle.image.proofs.pixels.largest_of.Tie as tie
 
 abbrev Inv-loop : tie.InvT-loop
-Inv-loop raster quarter most₀ i₀ most i = (i ≤ length raster) × (most ≡ largest (pixelAt 1 raster) i)
+Inv-loop raster count quarter most₀ i₀ most i = (i ≤ count) × (most ≡ largest (pixelAt 1 raster) i)
 
 abbrev μ-loop : tie.MeasureT-loop
-μ-loop raster quarter most₀ i₀ most i = length raster - i
+μ-loop raster count quarter most₀ i₀ most i = count - i
 
 largest-of-quarters-requires : tie.Need-largest-of-quarters-requires Inv-loop μ-loop
 largest-of-quarters-requires c κs = omega arith
@@ -46,9 +46,9 @@ loop-again c = let turn = c .before .before .before in
 
 returns : tie.Need-returns Inv-loop μ-loop
 returns c = let l = c .before .loop in
-    let raster = now (c .before .before .before .before .args .raster) in
-    let all : l .i ≡ length raster = omega arith in
-    l .inv .1 ∙ ap (largest (pixelAt 1 raster)) all
+    let a = c .before .before .before .before .args in
+    let all : l .i ≡ a .count = omega arith in
+    l .inv .1 ∙ ap (largest (pixelAt 1 (now (a .raster)))) all
 
 pub largest-of-spec : {M : Type 1} → statement M
 largest-of-spec =

@@ -7,7 +7,8 @@ use native.Mathlib.Omega.{arith}
 use denote.Ref.{now}
 use Rattle.image.specs.Pixels.{pixelAt}
 use Rattle.image.specs.Told.{largest}
-use Rattle.image.proofs.LargestPixel.{pixel-one, largest-none, largest-on, largest-quarters}
+use Rattle.image.proofs.PixelValues.{pixel-one}
+use Rattle.image.proofs.LargestPixel.{largest-none, largest-on, largest-quarters}
 use Rattle.image.proofs.pixels.largest_of_quarters.Statement.{statement}
 use Rattle.image.proofs.pixels.largest_of_quarters.Tie as tie
 

@@ -1,0 +1,49 @@
+//! Pictures made by chance, of one byte a pixel and of two.
+
+use crate::chance::Chance;
+
+/// A size and a maxval.
+#[derive(Clone, Copy)]
+pub struct Kind {
+    pub width: u64,
+    pub height: u64,
+    pub maxval: u64,
+}
+
+/// What is measured with one byte a pixel, and with two.
+pub const ONE_BYTE: Kind = Kind { width: 160, height: 120, maxval: 255 };
+pub const TWO_BYTES: Kind = Kind { width: 120, height: 90, maxval: 4095 };
+
+/// How many bytes a pixel takes.
+pub fn pixel_bytes(maxval: u64) -> usize {
+    if maxval > 255 { 2 } else { 1 }
+}
+
+/// Puts a pixel of so many bytes behind the others, its higher byte first.
+pub fn put_pixel(image: &mut Vec<u8>, bytes: usize, pixel: u64) {
+    image.extend(&pixel.to_be_bytes()[8 - bytes..]);
+}
+
+impl Kind {
+    pub fn pixels(self) -> u64 {
+        self.width * self.height
+    }
+
+    pub fn raster_bytes(self) -> usize {
+        self.pixels() as usize * pixel_bytes(self.maxval)
+    }
+
+    /// A picture with this comment, or none, behind its first line.
+    pub fn picture_with(self, comment: &str, chance: &mut Chance) -> Vec<u8> {
+        let Kind { width, height, maxval } = self;
+        let mut image = format!("P5\n{comment}{width} {height}\n{maxval}\n").into_bytes();
+        for _ in 0..self.pixels() {
+            put_pixel(&mut image, pixel_bytes(maxval), chance.below(maxval + 1));
+        }
+        image
+    }
+
+    pub fn picture(self, seed: u64) -> Vec<u8> {
+        self.picture_with("", &mut Chance::new(seed))
+    }
+}

@@ -1,0 +1,25 @@
+-- How the code counts: the positions that did not change, by one threshold. Only contracts of private functions speak of this.
+use Prim.Native.Nat.{ℕ, _*_, _/_}
+use mathlib.Core.Bool.{Bool}
+use mathlib.Core.List.{List}
+use lib.Dec.{leb}
+use lib.ListN.{length}
+use Rattle.image.specs.Pixels.{pixelBytes, pixelAt}
+use Rattle.score.specs.Changed.{apart, movedAt, counted}
+
+-- the largest difference that does not count
+abbrev pub thresholdOf : (allowance maxval : ℕ) → ℕ
+thresholdOf allowance maxval = allowance * maxval / 255
+
+-- whether two pixels are no more than a threshold apart
+abbrev pub near : (threshold x y : ℕ) → Bool
+near threshold x y = leb (apart x y) threshold
+
+-- whether those at a position of two rasters are, with `per` bytes a pixel
+abbrev pub nearAt : (per threshold : ℕ) (first second : List ℕ) → ℕ → Bool
+nearAt per threshold first second position = near threshold (pixelAt per first position) (pixelAt per second position)
+
+-- at how many positions two rasters of images with this maxval changed
+abbrev pub changedIn : (allowance maxval : ℕ) (first second : List ℕ) → ℕ
+changedIn allowance maxval first second =
+    counted (movedAt allowance maxval (pixelAt (pixelBytes maxval) first) (pixelAt (pixelBytes maxval) second)) (length first / pixelBytes maxval)

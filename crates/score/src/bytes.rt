@@ -1,0 +1,52 @@
+// Rasters of one byte a pixel: at how many positions two of them are no more than a threshold apart.
+ghost use mathlib.Core.Path.{_≡_};
+ghost use Prim.Native.Nat.{_+_, _≤_, _<_};
+ghost use lib.ListN.{length};
+ghost use Rattle.score.specs.Changed.{oneIf, counted};
+ghost use Rattle.score.specs.Near.{near, nearAt};
+
+// 1 for pixels no more than the threshold apart, else 0.
+fn near_byte(threshold: u8, x: u8, y: u8) -> u8
+    ensures { λ r. ⌜ r ≡ oneIf (near threshold x y) ⌝ }
+{
+    let apart = if x < y { y - x } else { x - y };
+    if threshold < apart { 0 } else { 1 }
+}
+
+// Where the positions from here on that are counted in one go end.
+fn block_end(from: usize, len: usize) -> usize
+    requires { ⌜ from < len ⌝ }
+    ensures { λ r. ⌜ (from < r) × (r ≤ len) × (r ≤ from + 192) ⌝ }
+{
+    if len - from < 192 { len } else { from + 192 }
+}
+
+// The positions from one place up to another. One pass with nothing in it but a compare and a sum; so few positions that 8 bits hold the
+// sum, which lets a vector register take as many of them as it has bytes.
+fn near_between(first: &[u8], second: &[u8], threshold: u8, from: usize, to: usize) -> u8
+    requires { ⌜ (length (now first) ≡ length (now second)) × (from ≤ to) × (to ≤ length (now first)) × (to ≤ from + 255) ⌝ }
+    ensures { λ r. ⌜ counted (nearAt 1 threshold (now (first .entry)) (now (second .entry))) from + r ≡ counted (nearAt 1 threshold (now (first .entry)) (now (second .entry))) to ⌝ }
+{
+    let mut count: u8 = 0;
+    let mut i = from;
+    while i < to {
+        count += near_byte(threshold, first[i], second[i]);
+        i += 1;
+    }
+    count
+}
+
+// All positions, some at a time.
+pub(crate) fn near_of(first: &[u8], second: &[u8], threshold: u8) -> u16
+    requires { ⌜ (length (now first) ≡ length (now second)) × (length (now first) ≤ 24576) ⌝ }
+    ensures { λ r. ⌜ r ≡ counted (nearAt 1 threshold (now (first .entry)) (now (second .entry))) (length (now (first .entry))) ⌝ }
+{
+    let mut count: u16 = 0;
+    let mut i = 0;
+    while i < first.len() {
+        let to = block_end(i, first.len());
+        count += near_between(first, second, threshold, i, to) as u16;
+        i = to;
+    }
+    count
+}

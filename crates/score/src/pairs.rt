@@ -1,0 +1,39 @@
+// Rasters of two bytes a pixel: at how many positions two of them are no more than a threshold apart.
+ghost use mathlib.Core.Path.{_≡_};
+ghost use Prim.Native.Nat.{_+_, _*_, _/_, _≤_};
+ghost use lib.ListN.{length};
+ghost use Rattle.image.specs.Pixels.{pixelAt};
+ghost use Rattle.score.specs.Changed.{oneIf, counted};
+ghost use Rattle.score.specs.Near.{near, nearAt};
+
+// The pixel at a position.
+fn pixel(raster: &[u8], position: usize) -> u16
+    requires { ⌜ position * 2 + 2 ≤ length (now raster) ⌝ }
+    ensures { λ r. ⌜ r ≡ pixelAt 2 (now (raster .entry)) position ⌝ }
+{
+    let from = position * 2;
+    image::pair_value(&raster[from..from + 2])
+}
+
+// 1 for pixels no more than the threshold apart, else 0.
+fn near_pair(threshold: u16, x: u16, y: u16) -> u16
+    ensures { λ r. ⌜ r ≡ oneIf (near threshold x y) ⌝ }
+{
+    let apart = if x < y { y - x } else { x - y };
+    if threshold < apart { 0 } else { 1 }
+}
+
+// All positions: 16 bits hold the sum.
+pub(crate) fn near_of(first: &[u8], second: &[u8], threshold: u16) -> u16
+    requires { ⌜ (length (now first) ≡ length (now second)) × (length (now first) ≤ 24576) ⌝ }
+    ensures { λ r. ⌜ r ≡ counted (nearAt 2 threshold (now (first .entry)) (now (second .entry))) (length (now (first .entry)) / 2) ⌝ }
+{
+    let positions = first.len() / 2;
+    let mut count: u16 = 0;
+    let mut i = 0;
+    while i < positions {
+        count += near_pair(threshold, pixel(first, i), pixel(second, i));
+        i += 1;
+    }
+    count
+}
