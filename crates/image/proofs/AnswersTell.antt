@@ -16,7 +16,7 @@ use Rattle.image.specs.Fields.{oneOf, judged, numberField, numberFields,
 use Rattle.image.specs.Kinds.{Kind}
 use Rattle.image.specs.Reading.{Reading, refusedReading, withRaster, headerOf, readingOf}
 use Rattle.image.specs.Told.{told, judgedTook}
-use Rattle.image.proofs.FieldsOfBytes.{one-none, one-found, one-wrong, up-to-range}
+use Rattle.image.proofs.FieldsOfBytes.{one-none, one-found, one-wrong}
 
 -- an answer without a refusal tells of a value found
 pub told-found : (s : List ℕ) (took : Took) → took .refusal ≡ 0 → told s took ≡ found (took .value) (took .used) (ahead s (took .used))
@@ -90,24 +90,10 @@ pub told-judged : (s : List ℕ) (top value used : ℕ) → told s (judgedTook t
 unfolding told judgedTook judged
 told-judged s top value used = by (upTo top value)
   where
-    by : (b : Bool)
-        → told s (cond b record { refusal = 0; value = value; used = used } record { refusal = numberOutOfRange; value = 0; used = 0 })
+    by : (b : Bool) → told s record { refusal = cond b 0 numberOutOfRange; value = value; used = used }
         ≡ cond b (found value used (ahead s used)) (stopped numberOutOfRange)
     by true = refl
     by false = refl
-
--- and it keeps to the bounds of its value and of the bytes used
-abbrev pub Within : ℕ → Took → Type 0
-Within top took = (took .value ≤ top) × (took .used ≤ limit)
-
-pub judged-within : (top value used : ℕ) → used ≤ limit → Within top (judgedTook top value used)
-unfolding judgedTook
-judged-within top value used h = by (upTo top value) refl
-  where
-    by : (b : Bool) → upTo top value ≡ b
-        → Within top (cond b record { refusal = 0; value = value; used = used } record { refusal = numberOutOfRange; value = 0; used = 0 })
-    by true e = (up-to-range top value e .1, h)
-    by false e = (omega arith, omega arith)
 
 -- two steps in a row, however they are bracketed
 pub then-then : {A B C : Type 0} (refused : ℕ → C) (step : Step A) (next : A → ℕ → List Seen → Step B) (last : B → ℕ → List Seen → C)

@@ -6,7 +6,7 @@ use mathlib.Core.Bool.{Bool, true, false, _&&_}
 use mathlib.Core.List.{List, [], _∷_}
 use mathlib.Core.Path.{_≡_, refl, ap}
 use native.Mathlib.Omega.{arith}
-use borrow.Author.Tests.{lt-leb, leb-true, leb-false}
+use borrow.Author.Tests.{le-leb, lt-leb, leb-true, leb-false}
 use lib.Dec.{leb}
 use Rattle.refusals.specs.Numbers.{wrongByte}
 use Rattle.decimals.specs.Decimal.{zeroByte, digit, withDigit}
@@ -15,6 +15,7 @@ use Rattle.image.specs.Bytes.{white}
 use Rattle.image.specs.Tests.{Test, upTo}
 use Rattle.image.specs.Seen.{Seen}
 use Rattle.image.specs.Step.{stopped, found}
+use Rattle.image.specs.Told.{aboveRanges}
 use Rattle.image.specs.Fields.{oneOf, afterWhite, judged, moreDigits, numberField}
 
 -- one byte of a kind
@@ -83,12 +84,20 @@ module _ (end : ℕ) (test : Test) (l : List Seen) where
   unfolding numberField
   number-wrong e d = rw (one-wrong digit end e d)
 
--- a number that passes its test is in its range
+-- a number that passes its test is in its range …
 pub up-to-range : (top value : ℕ) → upTo top value ≡ true → (1 ≤ value) × (value ≤ top)
 unfolding upTo
 up-to-range top value e = between 1 top value e
 
--- a number above every range may stand for any other such number
+-- … and one in its range passes it; 0 and one above it do not
+pub up-to-in : (top value : ℕ) → 1 ≤ value → value ≤ top → upTo top value ≡ true
+unfolding upTo
+up-to-in top value low high = rw (le-leb 1 value low, le-leb value top high)
+
+pub up-to-none : (top value : ℕ) → value < 1 → upTo top value ≡ false
+unfolding upTo
+up-to-none top value h = rw (lt-leb 1 value h)
+
 pub up-to-above : (top value : ℕ) → top < value → upTo top value ≡ false
 unfolding upTo
 up-to-above top value h = rw (lt-leb value top h) (by (leb 1 value))
@@ -97,21 +106,22 @@ up-to-above top value h = rw (lt-leb value top h) (by (leb 1 value))
     by true = refl
     by false = refl
 
-judged-same : (top u v used : ℕ) (rest : List Seen) → top < 65536 → min 65536 u ≡ min 65536 v
+-- a number above every range may stand for any other such number
+judged-same : (top u v used : ℕ) (rest : List Seen) → top < aboveRanges → min aboveRanges u ≡ min aboveRanges v
     → judged (upTo top) u used rest ≡ judged (upTo top) v used rest
 unfolding judged
-judged-same top u v used rest t e = by (leb 65536 u) refl
+judged-same top u v used rest t e = by (leb aboveRanges u) refl
   where
-    by : (b : Bool) → leb 65536 u ≡ b → judged (upTo top) u used rest ≡ judged (upTo top) v used rest
+    by : (b : Bool) → leb aboveRanges u ≡ b → judged (upTo top) u used rest ≡ judged (upTo top) v used rest
     by true h =
-        let hu : 65536 ≤ u = leb-true 65536 u h in
+        let hu : aboveRanges ≤ u = leb-true aboveRanges u h in
         rw (up-to-above top u (omega arith), up-to-above top v (omega arith))
     by false h =
-        let hu : u < 65536 = leb-false 65536 u h in
+        let hu : u < aboveRanges = leb-false aboveRanges u h in
         let same : u ≡ v = omega arith in
         ap (λ (n : ℕ). judged (upTo top) n used rest) same
 
-pub digits-same : (end top u v : ℕ) (l : List Seen) → top < 65536 → min 65536 u ≡ min 65536 v
+pub digits-same : (end top u v : ℕ) (l : List Seen) → top < aboveRanges → min aboveRanges u ≡ min aboveRanges v
     → moreDigits end (upTo top) u l ≡ moreDigits end (upTo top) v l
 unfolding moreDigits
 digits-same end top u v [] t e = refl
@@ -121,8 +131,8 @@ digits-same end top u v (seen ∷ rest) t e =
       digits-same end top (withDigit u (seen .byte)) (withDigit v (seen .byte)) rest t (grow (seen .byte - zeroByte)),
     )
   where
-    grow : (d : ℕ) → min 65536 (10 * u + d) ≡ min 65536 (10 * v + d)
+    grow : (d : ℕ) → min aboveRanges (10 * u + d) ≡ min aboveRanges (10 * v + d)
     grow d = omega arith
 
-pub saturates : (end top v : ℕ) (l : List Seen) → top < 65536 → moreDigits end (upTo top) (min 65536 v) l ≡ moreDigits end (upTo top) v l
-saturates end top v l t = digits-same end top (min 65536 v) v l t (omega arith)
+pub saturates : (end top v : ℕ) (l : List Seen) → top < aboveRanges → moreDigits end (upTo top) (min aboveRanges v) l ≡ moreDigits end (upTo top) v l
+saturates end top v l t = digits-same end top (min aboveRanges v) v l t (omega arith)

@@ -8,10 +8,10 @@ use native.Mathlib.Nat.{mul-one, zero-mul}
 use lib.ListN.{length, take, drop, getD}
 use lib.Seq.{take-take}
 use Rattle.image.specs.Pixels.{bytesValue, pixelAt}
+use Rattle.image.specs.Told.{pixelByPart}
 
 -- the slice from a pixel's first byte to behind its last has that pixel
-pub pixel-part : (per : ℕ) (raster : List ℕ) (position : ℕ)
-    → pixelAt per (take (position * per + per - position * per) (drop (position * per) raster)) 0 ≡ pixelAt per raster position
+pub pixel-part : (per : ℕ) (raster : List ℕ) (position : ℕ) → pixelByPart per raster position ≡ pixelAt per raster position
 unfolding pixelAt
 pixel-part per raster position =
     let size : position * per + per - position * per ≡ per = omega arith in

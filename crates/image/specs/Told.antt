@@ -1,5 +1,5 @@
 -- How the answers of the code's own steps stand for the steps of the definitions. Only contracts of private functions speak of this.
-use Prim.Native.Nat.{ℕ, zero, suc, max}
+use Prim.Native.Nat.{ℕ, zero, suc, _+_, _*_, _-_, max}
 use mathlib.Core.Bool.{true, cond}
 use mathlib.Core.List.{List}
 use lib.ListN.{take, drop}
@@ -9,6 +9,7 @@ use Rattle.image.specs.declared.bytes.Took.{Took}
 use Rattle.image.specs.Tests.{upTo}
 use Rattle.image.specs.Seen.{limit, Seen, visible, ahead}
 use Rattle.image.specs.Step.{Step, stopped, found}
+use Rattle.image.specs.Pixels.{pixelAt}
 
 -- the step that an answer tells of: with no refusal, its value and the bytes that are still ahead
 unfoldable pub told : List ℕ → Took → Step ℕ
@@ -18,11 +19,17 @@ told s took = unlessRefused (took .refusal) (found (took .value) (took .used) (a
 unfoldable pub aheadInComment : List ℕ → ℕ → List Seen
 aheadInComment s used = visible true used (drop used (take limit s))
 
--- the answer at the white byte after a number
+-- the answer at the white byte after a number: out of its range the number is refused, and what else is answered counts for nothing
 unfoldable pub judgedTook : ℕ → ℕ → ℕ → Took
-judgedTook top value used =
-    cond (upTo top value) record { refusal = 0; value = value; used = used }
-    record { refusal = numberOutOfRange; value = 0; used = 0 }
+judgedTook top value used = record { refusal = cond (upTo top value) 0 numberOutOfRange; value = value; used = used }
+
+-- above the range of every number: where the code's values stop
+abbrev pub aboveRanges : ℕ
+aboveRanges = 65536
+
+-- the pixel at a position of a raster, by the part of it that the pixel takes: how the code reads one
+abbrev pub pixelByPart : ℕ → List ℕ → ℕ → ℕ
+pixelByPart per raster position = pixelAt per (take (position * per + per - position * per) (drop (position * per) raster)) 0
 
 -- the largest of the first `count` pixels: how the code looks for one that is above maxval
 unfoldable pub largest : (ℕ → ℕ) → ℕ → ℕ

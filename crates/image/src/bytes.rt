@@ -23,7 +23,7 @@ const LF: u8 = 10;
 // `P` and the byte behind it: no comment begins before they are taken.
 const SIGN_BYTES: usize = 2;
 
-// What a step of reading finds: a value, and the bytes used with it. With a refusal both are 0.
+// What a step of reading finds: a value, and the bytes used with it. With a refusal both count for nothing.
 pub(crate) struct Took {
     pub refusal: u8,
     pub value: usize,

@@ -8,7 +8,7 @@ ghost use Rattle.image.specs.Bytes.{white};
 ghost use Rattle.image.specs.Tests.{upTo};
 ghost use Rattle.image.specs.Seen.{limit, ahead, endOf};
 ghost use Rattle.image.specs.Step.{stopped, andThen};
-ghost use Rattle.image.specs.Told.{told, judgedTook};
+ghost use Rattle.image.specs.Told.{told, judgedTook, aboveRanges};
 ghost use Rattle.image.specs.Fields.{afterWhite, numberField, magic};
 use crate::bytes;
 use crate::bytes::Took;
@@ -77,14 +77,14 @@ fn skip_white(s: &[u8], used: usize) -> usize
 
 // A number with one digit more. It stops above every range, so that no run of digits can wrap it.
 fn grown(value: usize, byte: usize) -> usize
-    requires { ⌜ (value ≤ 65536) × (digit byte ≡ true) ⌝ }
-    ensures { λ r. ⌜ r ≡ min 65536 (withDigit value byte) ⌝ }
+    requires { ⌜ (value ≤ aboveRanges) × (digit byte ≡ true) ⌝ }
+    ensures { λ r. ⌜ r ≡ min aboveRanges (withDigit value byte) ⌝ }
 {
     let more = 10 * value + (byte - ZERO);
     if more < ABOVE { more } else { ABOVE }
 }
 
-// A number at the white byte after its digits.
+// A number at the white byte after its digits. Refused, it is left as it is: with a 0 in its place a header takes four instructions more.
 fn judge(value: usize, top: usize, used: usize) -> Took
     ensures { λ r. ⌜ r ≡ judgedTook top value used ⌝ }
 {
@@ -95,15 +95,19 @@ fn judge(value: usize, top: usize, used: usize) -> Took
             used,
         };
     }
-    bytes::stopped(NUMBER_OUT_OF_RANGE)
+    Took {
+        refusal: NUMBER_OUT_OF_RANGE,
+        value,
+        used,
+    }
 }
 
 // A number from 1 to `top`, with the white bytes before it and one white byte after it. In one loop, so that what a comment takes
 // stands in the program only once for each number.
 fn one_number(s: &[u8], used: usize, top: usize) -> Took
-    requires { ⌜ top < 65536 ⌝ }
+    requires { ⌜ top < aboveRanges ⌝ }
     ensures step { λ r. ⌜ told (now (s .entry)) r ≡ numberField (endOf (now (s .entry))) (upTo top) (ahead (now (s .entry)) used) ⌝ }
-    ensures within { λ r. ⌜ (r .value ≤ top) × (r .used ≤ limit) ⌝ }
+    ensures within { λ r. ⌜ (r .value ≤ aboveRanges) × (r .used ≤ limit) ⌝ }
 {
     let mut at = used;
     let mut value = 0;
@@ -131,9 +135,9 @@ fn one_number(s: &[u8], used: usize, top: usize) -> Took
 
 // Such a number behind what was taken before. A refusal from before is passed on.
 pub(crate) fn number(s: &[u8], before: Took, top: usize) -> Took
-    requires { ⌜ top < 65536 ⌝ }
+    requires { ⌜ top < aboveRanges ⌝ }
     ensures step { λ r. ⌜ told (now (s .entry)) r ≡ andThen stopped (told (now (s .entry)) before) (λ value used rest. numberField (endOf (now (s .entry))) (upTo top) rest) ⌝ }
-    ensures within { λ r. ⌜ (r .value ≤ top) × (r .used ≤ limit) ⌝ }
+    ensures within { λ r. ⌜ (r .value ≤ aboveRanges) × (r .used ≤ limit) ⌝ }
 {
     if before.refusal != 0 {
         return bytes::stopped(before.refusal);

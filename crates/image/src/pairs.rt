@@ -4,7 +4,7 @@ ghost use mathlib.Core.Path.{_≡_};
 ghost use Prim.Native.Nat.{_+_, _*_, _/_, _%_, _≤_, max};
 ghost use lib.ListN.{length, getD};
 ghost use Rattle.image.specs.Pixels.{pixelAt};
-ghost use Rattle.image.specs.Told.{largest};
+ghost use Rattle.image.specs.Told.{largest, pixelByPart};
 use crate::pair_value;
 
 // The first two bytes as one word, the first of them low. (The compiler makes one load of them.)
@@ -22,14 +22,19 @@ pub(crate) fn turned(word: u16) -> u16
     word % 256 * 256 + word / 256
 }
 
-// The larger of a number and the pixel at a position.
-fn larger_at(most: u16, raster: &[u8], position: usize) -> u16
+// The pixel at a position.
+fn pixel(raster: &[u8], position: usize) -> u16
     requires { ⌜ position * 2 + 2 ≤ length (now raster) ⌝ }
-    ensures { λ r. ⌜ r ≡ max most (pixelAt 2 (now (raster .entry)) position) ⌝ }
+    ensures { λ r. ⌜ r ≡ pixelByPart 2 (now (raster .entry)) position ⌝ }
 {
     let from = position * 2;
-    let pixel = pair_value(&raster[from..from + 2]);
-    if most < pixel { pixel } else { most }
+    pair_value(&raster[from..from + 2])
+}
+
+fn larger(a: u16, b: u16) -> u16
+    ensures { λ r. ⌜ r ≡ max a b ⌝ }
+{
+    if a < b { b } else { a }
 }
 
 // The largest pixel of two times `half` pixels.
@@ -41,11 +46,11 @@ fn largest_of_halves(raster: &[u8], half: usize) -> u16
     let mut second: u16 = 0;
     let mut i = 0;
     while i < half {
-        first = larger_at(first, raster, i);
-        second = larger_at(second, raster, half + i);
+        first = larger(first, pixel(raster, i));
+        second = larger(second, pixel(raster, half + i));
         i += 1;
     }
-    if first < second { second } else { first }
+    larger(first, second)
 }
 
 // The largest of the first `count` pixels: one may be left behind the halves.
@@ -56,7 +61,7 @@ pub(crate) fn largest_of(raster: &[u8], count: usize) -> u16
     let half = count / 2;
     let most = largest_of_halves(raster, half);
     if 2 * half < count {
-        return larger_at(most, raster, 2 * half);
+        return larger(most, pixel(raster, 2 * half));
     }
     most
 }

@@ -7,8 +7,8 @@ ghost use lib.ListN.{length};
 ghost use Rattle.image.specs.Seen.{limit};
 ghost use Rattle.image.specs.Pixels.{pixelBytes, pixelAt, atSome};
 ghost use Rattle.image.specs.Step.{andThen};
-ghost use Rattle.image.specs.Told.{told, largest};
-ghost use Rattle.image.specs.Kinds.{pgm, largestSide};
+ghost use Rattle.image.specs.Told.{told, largest, aboveRanges};
+ghost use Rattle.image.specs.Kinds.{pgm};
 ghost use Rattle.image.specs.Reading.{refusedWith, named, withRaster};
 use crate::Numbers;
 use crate::bytes::LIMIT;
@@ -105,7 +105,7 @@ fn too_large(raster: &[u8], positions: usize, maxval: usize) -> bool
 
 // The answer for a header that has these numbers and takes `start` bytes.
 fn judge(s: &[u8], width: usize, height: usize, maxval: usize, start: usize) -> Numbers
-    requires { ⌜ (width ≤ largestSide) × (height ≤ largestSide) × (start ≤ limit) ⌝ }
+    requires { ⌜ (width ≤ aboveRanges) × (height ≤ aboveRanges) × (start ≤ limit) ⌝ }
     ensures { λ r. ⌜ r ≡ named (withRaster pgm (now (s .entry)) (width ∷ height ∷ maxval ∷ []) start) ⌝ }
 {
     let positions = width * height;
@@ -131,7 +131,7 @@ fn judge(s: &[u8], width: usize, height: usize, maxval: usize, start: usize) -> 
 
 // The answer for a header that has this width and height, and with them what was taken for its maxval.
 pub(crate) fn behind(s: &[u8], width: usize, height: usize, maxval: Took) -> Numbers
-    requires { ⌜ (width ≤ largestSide) × (height ≤ largestSide) × (maxval .used ≤ limit) ⌝ }
+    requires { ⌜ (width ≤ aboveRanges) × (height ≤ aboveRanges) × (maxval .used ≤ limit) ⌝ }
     ensures { λ r. ⌜ r ≡ andThen refusedWith (told (now (s .entry)) maxval) (λ most start rest. named (withRaster pgm (now (s .entry)) (width ∷ height ∷ most ∷ []) start)) ⌝ }
 {
     if maxval.refusal != 0 {

@@ -8,7 +8,7 @@ use native.Mathlib.Numerals.{add-one}
 use Rattle.score.specs.Changed.{oneIf, counted}
 
 -- a position counts once at most
-pub one-at-most : (holds : Bool) → oneIf holds ≤ 1
+one-at-most : (holds : Bool) → oneIf holds ≤ 1
 one-at-most true = omega arith
 one-at-most false = omega arith
 

@@ -1,30 +1,36 @@
 -- When pixels moved, and that one threshold decides it, at every maxval and for pixels of any width.
 -- Assumes nothing.
-use Prim.Native.Nat.{ℕ, _+_, _*_, _≤_, _<_}
+use Prim.Native.Nat.{ℕ, _+_, _*_, _≤_}
 use mathlib.Core.Bool.{Bool, true, false, not}
 use mathlib.Core.List.{List}
-use mathlib.Core.Path.{_≡_, refl, sym, ap, _∙_}
+use mathlib.Core.Path.{_≡_, refl, _∙_}
 use native.Mathlib.Omega.{arith}
 use native.Mathlib.Nat.{mul-le-mul-right}
-use borrow.Author.Tests.{lt-ltb, le-ltb, lt-leb, le-leb, leb-true, leb-false}
+use borrow.Author.Tests.{ltb-true, ltb-false, leb-true, leb-false}
 use Rattle.image.specs.Pixels.{pixelAt}
 use Rattle.score.specs.Changed.{apart, moved, movedAt, oneIf, counted}
-use Rattle.score.specs.Near.{thresholdOf, near, nearAt}
-use Rattle.score.proofs.Counts.{counted-others}
+use Rattle.score.specs.Near.{thresholdOf, near, nearOne, nearAt}
+use Rattle.score.proofs.Counts.{counted-on, counted-others}
 
 -- pixels that differ by no more than the allowance did not move
 pub within-still : (allowance maxval x y : ℕ) → apart x y * 255 ≤ allowance * maxval → moved allowance maxval x y ≡ false
 unfolding moved
-within-still allowance maxval x y h = le-ltb (allowance * maxval) _ (omega (arith, h))
+within-still allowance maxval x y h = by (moved allowance maxval x y) refl
+  where
+    by : (m : Bool) → moved allowance maxval x y ≡ m → m ≡ false
+    by true e = absurd (omega (arith, ltb-true))
+    by false e = refl
 
 -- a difference times 255 is above a number exactly where it is above a 255th of it
 moved-not-near : (allowance maxval x y : ℕ) → moved allowance maxval x y ≡ not (near (thresholdOf allowance maxval) x y)
 unfolding moved
-moved-not-near allowance maxval x y = by (near (thresholdOf allowance maxval) x y) refl
+moved-not-near allowance maxval x y = by (moved allowance maxval x y) (near (thresholdOf allowance maxval) x y) refl refl
   where
-    by : (b : Bool) → near (thresholdOf allowance maxval) x y ≡ b → moved allowance maxval x y ≡ not b
-    by true e = le-ltb (allowance * maxval) _ (omega (arith, leb-true (apart x y) (thresholdOf allowance maxval) e))
-    by false e = lt-ltb (allowance * maxval) _ (omega (arith, leb-false (apart x y) (thresholdOf allowance maxval) e))
+    by : (m n : Bool) → moved allowance maxval x y ≡ m → near (thresholdOf allowance maxval) x y ≡ n → m ≡ not n
+    by true true e f = absurd (omega (arith, ltb-true, leb-true))
+    by true false e f = refl
+    by false true e f = refl
+    by false false e f = absurd (omega (arith, ltb-false, leb-false))
 
 -- and is no more than maxval
 pub threshold-most : (allowance maxval : ℕ) → allowance ≤ 255 → thresholdOf allowance maxval ≤ maxval
@@ -37,14 +43,19 @@ pub moved-are-others : (allowance maxval per count : ℕ) (first second : List �
 moved-are-others allowance maxval per count first second =
     counted-others _ _ count (λ position. moved-not-near allowance maxval (pixelAt per first position) (pixelAt per second position))
 
--- how the code tells near pixels from others
-pub near-1 : (threshold x y : ℕ) → apart x y ≤ threshold → 1 ≡ oneIf (near threshold x y)
-near-1 threshold x y h = sym (ap oneIf (le-leb (apart x y) threshold h))
+-- how the code tells near pixels from others …
+near-one : (threshold x y : ℕ) → nearOne threshold x y ≡ oneIf (near threshold x y)
+near-one threshold x y = by (near threshold x y) refl
+  where
+    by : (b : Bool) → near threshold x y ≡ b → nearOne threshold x y ≡ oneIf b
+    by true e = omega (arith, leb-true)
+    by false e = omega (arith, leb-false)
 
-pub far-0 : (threshold x y : ℕ) → threshold < apart x y → 0 ≡ oneIf (near threshold x y)
-far-0 threshold x y h = sym (ap oneIf (lt-leb (apart x y) threshold h))
-
--- and those at a position
-pub near-step : (per threshold : ℕ) (first second : List ℕ) (position : ℕ) {x y step : ℕ} → x ≡ pixelAt per first position
-    → y ≡ pixelAt per second position → step ≡ oneIf (near threshold x y) → step ≡ oneIf (nearAt per threshold first second position)
-near-step per threshold first second position is-x is-y is-step = is-step ∙ λ i. oneIf (near threshold (is-x i) (is-y i))
+-- … and counts them, from any position on, with pixels of `per` bytes: one position more
+pub near-on : (per threshold : ℕ) (first second : List ℕ) (from count here : ℕ) {x y step : ℕ}
+    → counted (nearAt per threshold first second) from + count ≡ counted (nearAt per threshold first second) here
+    → x ≡ pixelAt per first here → y ≡ pixelAt per second here → step ≡ nearOne threshold x y
+    → counted (nearAt per threshold first second) from + (count + step) ≡ counted (nearAt per threshold first second) (here + 1)
+near-on per threshold first second from count here {x} {y} {step} so-far is-x is-y is-step =
+    counted-on (nearAt per threshold first second) from count here step so-far
+    (is-step ∙ near-one threshold x y ∙ λ i. oneIf (near threshold (is-x i) (is-y i)))

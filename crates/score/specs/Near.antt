@@ -1,5 +1,5 @@
 -- How the code counts: the positions that did not change, by one threshold. Only contracts of private functions speak of this.
-use Prim.Native.Nat.{ℕ, _*_, _/_}
+use Prim.Native.Nat.{ℕ, _*_, _-_, _/_}
 use mathlib.Core.Bool.{Bool}
 use mathlib.Core.List.{List}
 use lib.Dec.{leb}
@@ -14,6 +14,10 @@ thresholdOf allowance maxval = allowance * maxval / 255
 -- whether two pixels are no more than a threshold apart
 abbrev pub near : (threshold x y : ℕ) → Bool
 near threshold x y = leb (apart x y) threshold
+
+-- 1 where they are, else 0: told by differences that stop at 0, of which a compare of either width is proved without more ado
+abbrev pub nearOne : (threshold x y : ℕ) → ℕ
+nearOne threshold x y = 1 - (apart x y - threshold)
 
 -- whether those at a position of two rasters are, with `per` bytes a pixel
 abbrev pub nearAt : (per threshold : ℕ) (first second : List ℕ) → ℕ → Bool

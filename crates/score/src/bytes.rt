@@ -2,15 +2,21 @@
 ghost use mathlib.Core.Path.{_≡_};
 ghost use Prim.Native.Nat.{_+_, _≤_, _<_};
 ghost use lib.ListN.{length};
-ghost use Rattle.score.specs.Changed.{oneIf, counted};
-ghost use Rattle.score.specs.Near.{near, nearAt};
+ghost use Rattle.score.specs.Changed.{apart, counted};
+ghost use Rattle.score.specs.Near.{nearOne, nearAt};
+
+// By how much two pixels differ.
+fn apart(x: u8, y: u8) -> u8
+    ensures { λ r. ⌜ r ≡ apart x y ⌝ }
+{
+    if x < y { y - x } else { x - y }
+}
 
 // 1 for pixels no more than the threshold apart, else 0.
-fn near_byte(threshold: u8, x: u8, y: u8) -> u8
-    ensures { λ r. ⌜ r ≡ oneIf (near threshold x y) ⌝ }
+fn near(threshold: u8, x: u8, y: u8) -> u8
+    ensures { λ r. ⌜ r ≡ nearOne threshold x y ⌝ }
 {
-    let apart = if x < y { y - x } else { x - y };
-    if threshold < apart { 0 } else { 1 }
+    if threshold < apart(x, y) { 0 } else { 1 }
 }
 
 // Where the positions from here on that are counted in one go end.
@@ -30,7 +36,7 @@ fn near_between(first: &[u8], second: &[u8], threshold: u8, from: usize, to: usi
     let mut count: u8 = 0;
     let mut i = from;
     while i < to {
-        count += near_byte(threshold, first[i], second[i]);
+        count += near(threshold, first[i], second[i]);
         i += 1;
     }
     count

@@ -2,25 +2,31 @@
 ghost use mathlib.Core.Path.{_≡_};
 ghost use Prim.Native.Nat.{_+_, _*_, _/_, _≤_};
 ghost use lib.ListN.{length};
-ghost use Rattle.image.specs.Pixels.{pixelAt};
-ghost use Rattle.score.specs.Changed.{oneIf, counted};
-ghost use Rattle.score.specs.Near.{near, nearAt};
+ghost use Rattle.image.specs.Told.{pixelByPart};
+ghost use Rattle.score.specs.Changed.{apart, counted};
+ghost use Rattle.score.specs.Near.{nearOne, nearAt};
 
 // The pixel at a position.
 fn pixel(raster: &[u8], position: usize) -> u16
     requires { ⌜ position * 2 + 2 ≤ length (now raster) ⌝ }
-    ensures { λ r. ⌜ r ≡ pixelAt 2 (now (raster .entry)) position ⌝ }
+    ensures { λ r. ⌜ r ≡ pixelByPart 2 (now (raster .entry)) position ⌝ }
 {
     let from = position * 2;
     image::pair_value(&raster[from..from + 2])
 }
 
-// 1 for pixels no more than the threshold apart, else 0.
-fn near_pair(threshold: u16, x: u16, y: u16) -> u16
-    ensures { λ r. ⌜ r ≡ oneIf (near threshold x y) ⌝ }
+// By how much two pixels differ.
+fn apart(x: u16, y: u16) -> u16
+    ensures { λ r. ⌜ r ≡ apart x y ⌝ }
 {
-    let apart = if x < y { y - x } else { x - y };
-    if threshold < apart { 0 } else { 1 }
+    if x < y { y - x } else { x - y }
+}
+
+// 1 for pixels no more than the threshold apart, else 0.
+fn near(threshold: u16, x: u16, y: u16) -> u16
+    ensures { λ r. ⌜ r ≡ nearOne threshold x y ⌝ }
+{
+    if threshold < apart(x, y) { 0 } else { 1 }
 }
 
 // All positions: 16 bits hold the sum.
@@ -32,7 +38,7 @@ pub(crate) fn near_of(first: &[u8], second: &[u8], threshold: u16) -> u16
     let mut count: u16 = 0;
     let mut i = 0;
     while i < positions {
-        count += near_pair(threshold, pixel(first, i), pixel(second, i));
+        count += near(threshold, pixel(first, i), pixel(second, i));
         i += 1;
     }
     count

@@ -1,26 +1,30 @@
 -- `image::fields::judge` meets its contract: the tests say whether the number is in its range.
 -- Assumes nothing.
-use borrow.Author.Needs.{needs}
+use Prim.Native.Nat.{ℕ}
+use mathlib.Core.Bool.{Bool, true, false, cond}
 use mathlib.Core.Logic.{⊎-elim}
-use borrow.Author.Tests.{le-leb, lt-leb}
+use mathlib.Core.Path.{_≡_, sym, ap}
+use native.Mathlib.Omega.{arith}
+use borrow.Author.Tests.{leb-true, leb-false}
+use Rattle.refusals.specs.Numbers.{numberOutOfRange}
+use Rattle.image.specs.declared.bytes.Took.{Took}
 use Rattle.image.specs.Tests.{upTo}
 use Rattle.image.specs.Told.{judgedTook}
+use Rattle.image.proofs.FieldsOfBytes.{up-to-in, up-to-none, up-to-above}
 use Rattle.image.proofs.fields.judge.Statement.{statement}
 use Rattle.image.proofs.fields.judge.Tie as tie
 
-returns : tie.Need-returns
-unfolding judgedTook upTo
-returns c = let a = c .before .before .args in
-    rw (le-leb 1 (a .value) (c .before .if1 .taken), c .if2 .taken)
+by-range : (top value used : ℕ) (b : Bool) → upTo top value ≡ b
+    → record { refusal = cond b 0 numberOutOfRange; value = value; used = used } ≡ judgedTook top value used
+unfolding judgedTook
+by-range top value used b e = ap (λ (b : Bool). record { refusal = cond b 0 numberOutOfRange; value = value; used = used }) (sym e)
 
-stopped-requires : tie.Need-stopped-requires
-stopped-requires c κs = search needs
+returns : tie.Need-returns
+returns c = by-range _ _ _ true (up-to-in _ _ (omega arith) (omega (arith, leb-true)))
 
 returns-2 : tie.Need-returns-2
-unfolding judgedTook upTo
-returns-2 c = let a = c .before .before .args in
-    let e = c .stopped .ensures in
-    ⊎-elim (λ w. rw (e, le-leb 1 (a .value) (w .0 .taken), w .1 .left)) (λ w. rw (e, lt-leb 1 (a .value) (w .left))) (c .before .if1 .came)
+returns-2 c =
+    by-range _ _ _ false (⊎-elim (λ w. up-to-above _ _ (omega (arith, leb-false))) (λ w. up-to-none _ _ (omega arith)) (c .if1 .came))
 
 pub judge-spec : {M : Type 1} → statement M
-judge-spec = tie.close (tie.spec returns stopped-requires returns-2)
+judge-spec = tie.close (tie.spec returns returns-2)

@@ -1,5 +1,5 @@
 -- `image::fields::one_number` meets its contract: what the bytes ahead make of the number stays the same from turn to turn.
--- The value stops at 65,536, which the definition cannot tell from a larger one.
+-- The value stops above every range, where the definition cannot tell it from a larger one.
 -- Assumes nothing.
 use Prim.Native.Nat.{_≤_}
 use mathlib.Core.Path.{_≡_, refl, sym, ap, _∙_}
@@ -10,15 +10,16 @@ use Rattle.decimals.specs.Decimal.{withDigit}
 use Rattle.image.specs.Tests.{upTo}
 use Rattle.image.specs.Seen.{ahead, endOf}
 use Rattle.image.specs.Fields.{numberField}
+use Rattle.image.specs.Told.{judgedTook, aboveRanges}
 use Rattle.image.proofs.FieldsOfBytes.{saturates}
 use Rattle.image.proofs.NumberUnderWay.{underWay, way-none, way-digit, way-wrong, way-over, way-on}
-use Rattle.image.proofs.AnswersTell.{Taken, told-passed, told-wrong, next-some, next-none, next-ended, told-judged, judged-within}
+use Rattle.image.proofs.AnswersTell.{Taken, told-passed, told-wrong, next-some, next-none, next-ended, told-judged}
 use Rattle.image.proofs.fields.one_number.Statement.{statement}
 use Rattle.image.proofs.fields.one_number.Tie as tie
 
 abbrev Inv-loop : tie.InvT-loop
 Inv-loop s used top at₀ value₀ begun₀ at value begun =
-    (value ≤ 65536)
+    (value ≤ aboveRanges)
     × (begun ≡ 0 → value ≡ 0)
     × (underWay begun (endOf s) (upTo top) value (ahead s at) ≡ numberField (endOf s) (upTo top) (ahead s used))
 
@@ -87,6 +88,7 @@ judge-requires : tie.Need-judge-requires Inv-loop μ-loop
 judge-requires c κs = tt
 
 returns-2 : tie.Need-returns-2 Inv-loop μ-loop
+unfolding judgedTook
 returns-2 c = let p = c .before .before .before in
     let l = turn (other p) .loop in
     let n = other p .before .before .next in
@@ -95,7 +97,7 @@ returns-2 c = let p = c .before .before .before in
       told-judged _ _ (l .value) (n .result .used)
           ∙ sym (way-over _ _ (l .value) (there (other p)) (l .begun) (c .before .if4 .taken) w)
           ∙ l .inv .2,
-      judged-within _ (l .value) (n .result .used) (n .ensures .1),
+      (l .inv .0, n .ensures .1),
     )
 
 skip-white-requires : tie.Need-skip-white-requires Inv-loop μ-loop

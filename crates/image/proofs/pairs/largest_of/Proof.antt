@@ -2,11 +2,12 @@
 -- Assumes nothing.
 use borrow.Author.Needs.{needs}
 use Prim.Native.Nat.{_+_, _*_, _/_}
-use mathlib.Core.Path.{_≡_, refl, ap, _∙_}
+use mathlib.Core.Path.{_≡_, ap, _∙_}
 use native.Mathlib.Omega.{arith}
 use denote.Ref.{now}
 use Rattle.image.specs.Pixels.{pixelAt}
 use Rattle.image.specs.Told.{largest}
+use Rattle.image.proofs.PixelValues.{pixel-part}
 use Rattle.image.proofs.LargestPixel.{largest-on}
 use Rattle.image.proofs.pairs.largest_of.Statement.{statement}
 use Rattle.image.proofs.pairs.largest_of.Tie as tie
@@ -17,18 +18,23 @@ largest-of-halves-requires c κs = search needs
 mul-if1 : tie.Need-mul-if1
 mul-if1 c = search needs
 
-mul-larger-at : tie.Need-mul-larger-at
-mul-larger-at c = search needs
+mul-pixel : tie.Need-mul-pixel
+mul-pixel c = search needs
 
-larger-at-requires : tie.Need-larger-at-requires
-larger-at-requires c κs = search needs
+pixel-requires : tie.Need-pixel-requires
+pixel-requires c κs = search needs
+
+larger-requires : tie.Need-larger-requires
+larger-requires c κs = search needs
 
 returns : tie.Need-returns
-returns c = let halves = c .before .before in
+returns c = let halves = c .before .before .before in
     let a = halves .before .before .args in
-    let pixel = pixelAt 2 (now (a .raster)) in
-    let one-more : 2 * (a .count / 2) + 1 ≡ a .count = omega arith in
-    largest-on pixel (2 * (a .count / 2)) (c .larger-at .ensures) (halves .largest-of-halves .ensures) refl ∙ ap (largest pixel) one-more
+    let raster = now (a .raster) in
+    let last = 2 * (a .count / 2) in
+    let one-more : last + 1 ≡ a .count = omega arith in
+    largest-on (pixelAt 2 raster) last (c .larger .ensures) (halves .largest-of-halves .ensures) (c .before .pixel .ensures ∙ pixel-part 2 raster last)
+    ∙ ap (largest (pixelAt 2 raster)) one-more
 
 returns-2 : tie.Need-returns-2
 returns-2 c = let halves = c .before in
@@ -42,7 +48,8 @@ largest-of-spec =
     (tie.spec
     largest-of-halves-requires
     mul-if1
-    mul-larger-at
-    larger-at-requires
+    mul-pixel
+    pixel-requires
+    larger-requires
     returns
     returns-2)

@@ -1,11 +1,12 @@
 -- `image::pairs::largest_of_halves` meets its contract: after i turns it has the largest of the first i pixels of each half.
 -- Assumes nothing.
 use Prim.Native.Nat.{ℕ, _+_, _*_, _-_, _≤_, max}
-use mathlib.Core.Path.{_≡_, refl, sym, ap, ap₂, _∙_}
+use mathlib.Core.Path.{_≡_, sym, ap, ap₂, _∙_}
 use native.Mathlib.Omega.{arith}
 use denote.Ref.{now}
 use Rattle.image.specs.Pixels.{pixelAt}
 use Rattle.image.specs.Told.{largest}
+use Rattle.image.proofs.PixelValues.{pixel-part}
 use Rattle.image.proofs.LargestPixel.{largest-none, largest-on, largest-join}
 use Rattle.image.proofs.pairs.largest_of_halves.Statement.{statement}
 use Rattle.image.proofs.pairs.largest_of_halves.Tie as tie
@@ -42,14 +43,20 @@ all-looked c =
 loop-holds : tie.Need-loop-holds Inv-loop μ-loop
 loop-holds c = (omega arith, sym (largest-none (pixel (c .before))), sym (largest-none (behind (c .before))))
 
-larger-at-requires : tie.Need-larger-at-requires Inv-loop μ-loop
-larger-at-requires c κs = omega arith
+pixel-requires : tie.Need-pixel-requires Inv-loop μ-loop
+pixel-requires c κs = omega arith
 
-add-larger-at : tie.Need-add-larger-at Inv-loop μ-loop
-add-larger-at c = omega arith
+larger-requires : tie.Need-larger-requires Inv-loop μ-loop
+larger-requires c κs = tt
 
-larger-at-requires-2 : tie.Need-larger-at-requires-2 Inv-loop μ-loop
-larger-at-requires-2 c κs = omega arith
+add-pixel : tie.Need-add-pixel Inv-loop μ-loop
+add-pixel c = omega arith
+
+pixel-requires-2 : tie.Need-pixel-requires-2 Inv-loop μ-loop
+pixel-requires-2 c κs = omega arith
+
+larger-requires-2 : tie.Need-larger-requires-2 Inv-loop μ-loop
+larger-requires-2 c κs = tt
 
 add-i : tie.Need-add-i Inv-loop μ-loop
 add-i c = omega arith
@@ -58,19 +65,22 @@ loop-less : tie.Need-loop-less Inv-loop μ-loop
 loop-less c = omega arith
 
 loop-again : tie.Need-loop-again Inv-loop μ-loop
-loop-again c = let turn = c .before .before .before in
+loop-again c = let one = c .before .before in
+    let turn = one .before .before .before in
     let l = turn .loop in
-    let start = turn .before .before in (
+    let start = turn .before .before in
+    let a = start .args in (
       omega arith,
-      largest-on (pixel start) (l .i) (c .before .larger-at .ensures) (l .inv .1) refl,
-      largest-on (behind start) (l .i) (c .larger-at2 .ensures) (l .inv .2) refl,
+      largest-on (pixel start) (l .i) (one .larger .ensures) (l .inv .1) (one .before .pixel .ensures ∙ pixel-part 2 (now (a .raster)) (l .i)),
+      largest-on (behind start) (l .i) (c .larger2 .ensures) (l .inv .2)
+          (c .before .pixel2 .ensures ∙ pixel-part 2 (now (a .raster)) (a .half + l .i)),
     )
 
-returns : tie.Need-returns Inv-loop μ-loop
-returns c = omega (arith, all-looked (c .before))
+larger-requires-3 : tie.Need-larger-requires-3 Inv-loop μ-loop
+larger-requires-3 c κs = tt
 
-returns-2 : tie.Need-returns-2 Inv-loop μ-loop
-returns-2 c = omega (arith, all-looked (c .before))
+returns : tie.Need-returns Inv-loop μ-loop
+returns c = c .larger3 .ensures ∙ all-looked (c .before)
 
 pub largest-of-halves-spec : {M : Type 1} → statement M
 largest-of-halves-spec =
@@ -79,11 +89,13 @@ largest-of-halves-spec =
     Inv-loop
     μ-loop
     loop-holds
-    larger-at-requires
-    add-larger-at
-    larger-at-requires-2
+    pixel-requires
+    larger-requires
+    add-pixel
+    pixel-requires-2
+    larger-requires-2
     add-i
     loop-less
     loop-again
-    returns
-    returns-2)
+    larger-requires-3
+    returns)

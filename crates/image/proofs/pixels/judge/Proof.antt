@@ -10,7 +10,8 @@ use denote.Ref.{now}
 use lib.ListN.{length, drop, length-drop}
 use lib.Seq.{length-take-le}
 use Rattle.image.specs.Seen.{limit}
-use Rattle.image.specs.Kinds.{pgm, largestSide}
+use Rattle.image.specs.Kinds.{pgm}
+use Rattle.image.specs.Told.{aboveRanges}
 use Rattle.image.specs.Reading.{Reading, usedWith, named}
 use Rattle.image.proofs.RasterFaults.{someFaulty, raster-over, raster-short, raster-faulty, raster-taken}
 use Rattle.image.proofs.PixelWidths.{pixel-bytes-range}
@@ -21,7 +22,7 @@ use Rattle.image.proofs.pixels.judge.Tie as tie
 answers : {answer answered : Reading} → answered ≡ answer → named answer ≡ named answered
 answers e = ap (λ (r : Reading). named r) (sym e)
 
-area : (c : tie.After-shared-slice-known) → c .before .args .width * c .before .args .height ≤ largestSide * largestSide
+area : (c : tie.After-shared-slice-known) → c .before .args .width * c .before .args .height ≤ aboveRanges * aboveRanges
 area c = mul-le-mul (c .before .pre .0) (c .before .pre .1)
 
 -- the bytes of the raster, and where they end
@@ -35,7 +36,7 @@ module _ (c : tie.After-pixel-bytes) where
   abbrev size : ℕ
   size = start .args .width * start .args .height * c .pixel-bytes .result
 
-  size-most : size ≤ largestSide * largestSide * 2
+  size-most : size ≤ aboveRanges * aboveRanges * 2
   size-most =
       let width : c .pixel-bytes .result ≤ 2 = omega (arith, pixel-bytes-range (start .args .maxval) .1) in
       mul-le-mul (area (c .before)) width

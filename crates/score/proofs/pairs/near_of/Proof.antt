@@ -6,50 +6,23 @@ use mathlib.Core.Path.{_≡_, ap, _∙_}
 use native.Mathlib.Omega.{arith}
 use denote.Ref.{now}
 use lib.ListN.{length}
-use Rattle.score.specs.Changed.{oneIf, counted}
+use Rattle.score.specs.Changed.{counted}
 use Rattle.score.specs.Near.{nearAt}
-use Rattle.score.proofs.Counts.{one-at-most, counted-none, counted-le, counted-on}
-use Rattle.score.proofs.Near.{near-step}
+use Rattle.image.proofs.Promises.{pixel-part}
+use Rattle.score.proofs.Counts.{counted-none}
+use Rattle.score.proofs.Near.{near-on}
 use Rattle.score.proofs.pairs.near_of.Statement.{statement}
 use Rattle.score.proofs.pairs.near_of.Tie as tie
 
 abbrev Inv-loop : tie.InvT-loop
 Inv-loop first second threshold positions count₀ i₀ count i =
-    (i ≤ positions) × (counted (nearAt 2 threshold first second) 0 + count ≡ counted (nearAt 2 threshold first second) i)
+    (i ≤ positions) × (count ≤ i) × (counted (nearAt 2 threshold first second) 0 + count ≡ counted (nearAt 2 threshold first second) i)
 
 abbrev μ-loop : tie.MeasureT-loop
 μ-loop first second threshold positions count₀ i₀ count i = positions - i
 
--- where a position is judged: the turn of the loop, and what came before it
-module _ (c : tie.After-near-pair Inv-loop μ-loop) where
-  abbrev turn : tie.At-loop Inv-loop μ-loop
-  turn = c .before .before .before .before
-
-  abbrev start : tie.Start Inv-loop μ-loop
-  start = turn .before .before .before
-
-  abbrev test : ℕ → Bool
-  test = nearAt 2 (start .args .threshold) (now (start .args .first)) (now (start .args .second))
-
-  step : c .near-pair .result ≡ oneIf (test (turn .loop .i))
-  step =
-      let a = start .args in
-      near-step 2 (a .threshold) (now (a .first)) (now (a .second)) (turn .loop .i)
-      (c .before .before .pixel .ensures) (c .before .pixel2 .ensures) (c .near-pair .ensures)
-
-  room : turn .loop .count + c .near-pair .result ≤ turn .loop .i + 1
-  room =
-      omega (
-        arith,
-        turn .loop .inv .1,
-        counted-none test,
-        counted-le test (turn .loop .i),
-        step,
-        one-at-most (test (turn .loop .i)),
-      )
-
 loop-holds : tie.Need-loop-holds Inv-loop μ-loop
-loop-holds c = (omega arith, omega arith)
+loop-holds c = (omega arith, omega arith, omega arith)
 
 pixel-requires : tie.Need-pixel-requires Inv-loop μ-loop
 pixel-requires c κs = omega arith
@@ -57,11 +30,11 @@ pixel-requires c κs = omega arith
 pixel-requires-2 : tie.Need-pixel-requires-2 Inv-loop μ-loop
 pixel-requires-2 c κs = omega arith
 
-near-pair-requires : tie.Need-near-pair-requires Inv-loop μ-loop
-near-pair-requires c κs = tt
+near-requires : tie.Need-near-requires Inv-loop μ-loop
+near-requires c κs = tt
 
 add-count : tie.Need-add-count Inv-loop μ-loop
-add-count c = omega (arith, room c)
+add-count c = omega (arith, c .near .ensures)
 
 add-i : tie.Need-add-i Inv-loop μ-loop
 add-i c = omega arith
@@ -70,14 +43,16 @@ loop-less : tie.Need-loop-less Inv-loop μ-loop
 loop-less c = omega arith
 
 loop-again : tie.Need-loop-again Inv-loop μ-loop
-loop-again c = let l = turn c .loop in
-    (omega arith, counted-on (test c) 0 (l .count) (l .i) (c .near-pair .result) (l .inv .1) (step c))
+loop-again c = let l = c .before .before .before .before .loop in
+    let x = c .before .before .pixel .ensures ∙ pixel-part 2 _ (l .i) in
+    let y = c .before .pixel2 .ensures ∙ pixel-part 2 _ (l .i) in
+    (omega arith, omega (arith, c .near .ensures), near-on 2 _ _ _ 0 _ _ (l .inv .2) x y (c .near .ensures))
 
 returns : tie.Need-returns Inv-loop μ-loop
 returns c = let t = c .before in let a = t .before .before .before .args in let l = t .loop in
     let test : ℕ → Bool = nearAt 2 (a .threshold) (now (a .first)) (now (a .second)) in
     let all : l .i ≡ length (now (a .first)) / 2 = omega arith in
-    let so-far : l .count ≡ counted test (l .i) = omega (arith, l .inv .1, counted-none test) in
+    let so-far : l .count ≡ counted test (l .i) = omega (arith, l .inv .2, counted-none test) in
     so-far ∙ ap (counted test) all
 
 pub near-of-spec : {M : Type 1} → statement M
@@ -89,7 +64,7 @@ near-of-spec =
     loop-holds
     pixel-requires
     pixel-requires-2
-    near-pair-requires
+    near-requires
     add-count
     add-i
     loop-less
