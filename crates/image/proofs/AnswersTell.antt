@@ -1,7 +1,7 @@
 -- What the code's answers tell of the definitions' steps: of the next byte, of one byte of a kind, of a number judged, and of a number
 -- behind what came before it.
 -- Assumes nothing.
-use Prim.Native.Nat.{ℕ, zero, suc, _≤_}
+use Prim.Native.Nat.{ℕ, zero, suc}
 use mathlib.Core.Bool.{Bool, true, false, cond}
 use mathlib.Core.List.{List, [], _∷_}
 use mathlib.Core.Path.{_≡_, refl, sym, ap, _∙_}
@@ -10,7 +10,7 @@ use Rattle.refusals.specs.Numbers.{wrongByte, numberOutOfRange}
 use Rattle.refusals.specs.First.{unlessRefused}
 use Rattle.image.specs.declared.bytes.Took.{Took}
 use Rattle.image.specs.Tests.{Test, upTo}
-use Rattle.image.specs.Seen.{limit, Seen, ahead, endOf}
+use Rattle.image.specs.Seen.{Seen, ahead, endOf}
 use Rattle.image.specs.Step.{Step, stopped, found, nextByte, andThen}
 use Rattle.image.specs.Fields.{oneOf, judged, numberField, numberFields, magic, headerFields}
 use Rattle.image.specs.Kinds.{Kind}

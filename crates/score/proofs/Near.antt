@@ -32,7 +32,7 @@ moved-not-near allowance maxval x y = by (moved allowance maxval x y) (near (thr
     by false true e f = refl
     by false false e f = absurd (omega (arith, ltb-false, leb-false))
 
--- and is no more than maxval
+-- the threshold is no more than maxval
 pub threshold-most : (allowance maxval : ℕ) → allowance ≤ 255 → thresholdOf allowance maxval ≤ maxval
 threshold-most allowance maxval h = omega (arith, mul-le-mul-right maxval h)
 

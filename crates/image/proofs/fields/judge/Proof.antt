@@ -7,7 +7,6 @@ use mathlib.Core.Path.{_≡_, sym, ap}
 use native.Mathlib.Omega.{arith}
 use borrow.Author.Tests.{leb-true, leb-false}
 use Rattle.refusals.specs.Numbers.{numberOutOfRange}
-use Rattle.image.specs.declared.bytes.Took.{Took}
 use Rattle.image.specs.Tests.{upTo}
 use Rattle.image.specs.Told.{judgedTook}
 use Rattle.image.proofs.FieldsOfBytes.{up-to-in, up-to-none, up-to-above}
