@@ -128,7 +128,8 @@ FIGURES = {
         (b"P5 1 1 65535 \xff\xff", "0 1 1 65535 15 13 2"),
         (b"P5 1 1 65536 \xff\xff", 12),
     ),
-    # 4095 is 0f ff: at it, above it, below it in the higher byte alone, and above it there alone; the last pixel, and what is behind it.
+    # 4095 is 0f ff: at it, above it, and below it in the higher byte alone. 256 is 01 00: below it with a larger lower byte, and above it in the
+    # lower byte alone; the last pixel, and what is behind it.
     "images: two bytes a pixel, bright pixels": pgm(
         (b"P5 1 1 4095 \x0f\xff", "0 1 1 4095 14 12 2"),
         (b"P5 1 1 4095 \x10\0", 15),

@@ -34,7 +34,7 @@ module _ (s : List ℕ) (taken : numbersOf s .refusal ≡ 0) where
   pub accepted-range : AllPass (pgm .tests) (readingOf pgm s .numbers)
   accepted-range = accepted-is-pgm s taken .head .header .passes
 
-  -- so its maxval is in range
+  -- so its maxval is not above the largest
   pub maxval-range : numbersOf s .maxval ≤ largestMaxval
   unfolding numbersOf pgm
   maxval-range =

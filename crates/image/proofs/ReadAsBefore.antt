@@ -1,4 +1,4 @@
--- A slice with no `#` behind the sign, among the bytes up to the delimiter or the first fault, is read as before there were comments.
+-- A slice with no `#` behind the sign, among the bytes up to the delimiter or the first fault, is read as if there were no comments.
 -- Assumes nothing.
 use Prim.Native.Nat.{ℕ, _+_, _≤_, _<_, min}
 use mathlib.Core.Bool.{Bool, true, false}

@@ -1,4 +1,5 @@
--- How an image was read before there were comments: every byte among the first 24,576 is seen (SCOPE, Images: visible bytes).
+-- How an image is read if there are no comments, as it was before request C-12: every byte among the first 24,576 is seen (SCOPE, Images:
+-- visible bytes).
 use Prim.Native.Nat.{ℕ, suc, _≤_, min}
 use mathlib.Core.List.{List, [], _∷_}
 use mathlib.Core.Logic.{_⊎_}

@@ -1,4 +1,4 @@
--- How a PGM was read while a pixel took one byte: maxval went up to 255 (SCOPE, Images).
+-- How a PGM was read while a pixel took one byte: maxval went up to 255 (SCOPE, Pixels of two bytes).
 use Prim.Native.Nat.{ℕ, _*_}
 use mathlib.Core.Bool.{_&&_}
 use mathlib.Core.List.{List, [], _∷_, _++_}

@@ -1,5 +1,5 @@
--- What crates above may rely on, beside the definitions of specs/: a score is at most L and at most the number of positions; it does not
--- matter which image comes first; an image against itself scores 0; how positions that pass a test count.
+-- What crates above may rely on, beside the definitions of specs/: a score is at most L and at most the number of positions; how
+-- many positions changed is the same the other way round, and none did between an image and itself; how positions that pass a test count.
 -- Assumes nothing.
 use Prim.Native.Nat.{ℕ, _*_, _≤_}
 use mathlib.Core.List.{List}

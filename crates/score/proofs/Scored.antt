@@ -44,7 +44,7 @@ module _ (bound allowance : ℕ) (first second : List ℕ) where
       none-alike bound one two (nothing-holds (scoreFaults bound one two) (score-numbered bound one two) e)
 
   module _ (taken : firstOf (scoreFaults bound (numbersOf first) (numbersOf second)) ≡ 0) where
-    -- rasters that are compared have one size, which fits an image, and a maxval in its range
+    -- rasters that are compared have one size, which fits an image, and a maxval that is not above the largest
     pub same-size : (length (rasterIn first) ≡ length (rasterIn second)) × (length (rasterIn first) ≤ limit)
         × (numbersOf first .maxval ≤ largestMaxval)
     same-size =
