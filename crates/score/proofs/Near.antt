@@ -3,23 +3,14 @@
 use Prim.Native.Nat.{ℕ, _+_, _*_, _≤_}
 use mathlib.Core.Bool.{Bool, true, false, not}
 use mathlib.Core.List.{List}
-use mathlib.Core.Path.{_≡_, refl, _∙_}
+use mathlib.Core.Path.{_≡_, refl, ap, _∙_}
 use native.Mathlib.Omega.{arith}
 use native.Mathlib.Nat.{mul-le-mul-right}
-use borrow.Author.Tests.{ltb-true, ltb-false, leb-true, leb-false}
+use borrow.Author.Tests.{le-leb, ltb-true, ltb-false, leb-true, leb-false}
 use Rattle.image.specs.Pixels.{pixelAt}
 use Rattle.score.specs.Changed.{apart, moved, movedAt, oneIf, counted}
 use Rattle.score.specs.Near.{thresholdOf, near, nearOne, nearAt}
 use Rattle.score.proofs.Counts.{counted-on, counted-others}
-
--- pixels that differ by no more than the allowance did not move
-pub within-still : (allowance maxval x y : ℕ) → apart x y * 255 ≤ allowance * maxval → moved allowance maxval x y ≡ false
-unfolding moved
-within-still allowance maxval x y h = by (moved allowance maxval x y) refl
-  where
-    by : (m : Bool) → moved allowance maxval x y ≡ m → m ≡ false
-    by true e = absurd (omega (arith, ltb-true))
-    by false e = refl
 
 -- a difference times 255 is above a number exactly where it is above a 255th of it
 moved-not-near : (allowance maxval x y : ℕ) → moved allowance maxval x y ≡ not (near (thresholdOf allowance maxval) x y)
@@ -31,6 +22,11 @@ moved-not-near allowance maxval x y = by (moved allowance maxval x y) (near (thr
     by true false e f = refl
     by false true e f = refl
     by false false e f = absurd (omega (arith, ltb-false, leb-false))
+
+-- so pixels that differ by no more than the allowance did not move
+pub within-still : (allowance maxval x y : ℕ) → apart x y * 255 ≤ allowance * maxval → moved allowance maxval x y ≡ false
+within-still allowance maxval x y h =
+    moved-not-near allowance maxval x y ∙ ap not (le-leb (apart x y) (thresholdOf allowance maxval) (omega (arith, h)))
 
 -- the threshold is no more than maxval
 pub threshold-most : (allowance maxval : ℕ) → allowance ≤ 255 → thresholdOf allowance maxval ≤ maxval
