@@ -1,5 +1,6 @@
 """Calls of the ring itself, by sections."""
 
+import itertools
 import random
 
 import model
@@ -97,6 +98,32 @@ def ring_random(rng, count):
             yield call("ring_sum", width, slots, ring, slot, rng.randint(0, slots))
 
 
+def one_bit_rings(rng, slots):
+    """Rings for slots of one bit: all 1 and of chance, of B bytes and of more. Bits of no slot are 1 too, or anything."""
+    size = model.ring_bytes(1, slots)
+    for length in (size, size + rng.randint(1, 9)):
+        yield b"\xff" * length
+        yield rng.randbytes(length)
+
+
+def one_bit_few(rng):
+    """Up to ten slots of one bit: every next slot and every number of newest ones, with one of the four rings."""
+    for slots in range(1, 11):
+        rings = [*one_bit_rings(rng, slots)]
+        for next_slot, j in itertools.product(range(slots), range(slots + 1)):
+            yield call("ring_sum", 1, slots, rings[(next_slot + j) % 4], next_slot, j)
+
+
+def one_bit_many(rng):
+    """1 to 130 slots of one bit, which is more than two words of eight bytes, and as many as there can be."""
+    for slots in [*range(1, 131), 4095, 4096]:
+        for ring in one_bit_rings(rng, slots):
+            for next_slot, j in ((0, slots), (slots - 1, slots)):
+                yield call("ring_sum", 1, slots, ring, next_slot, j)
+            for _ in range(2):
+                yield call("ring_sum", 1, slots, ring, rng.randrange(slots), rng.randint(0, slots))
+
+
 def ring_large(rng):
     """The largest ring, 8,192 bytes, and a slice of 32,768."""
     ring = rng.randbytes(8192)
@@ -115,3 +142,5 @@ def sections():
     yield "ring: every width", ring_values(random.Random(2))
     yield "ring: any calls", ring_random(random.Random(3), 400)
     yield "ring: the largest", ring_large(random.Random(17))
+    yield "ring: few slots of one bit", one_bit_few(random.Random(32))
+    yield "ring: slots of one bit", one_bit_many(random.Random(33))

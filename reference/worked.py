@@ -1,5 +1,5 @@
-"""Figures worked by hand, as calls and answers: the cases A to G of docs/SCOPE.md, comments in headers, pixels of two bytes, and the lines
-of the vectors' format.
+"""Figures worked by hand, as calls and answers: the cases A to G of docs/SCOPE.md, slots of one bit, comments in headers, pixels of two
+bytes, and the lines of the vectors' format.
 
 The model is held to them each time the vectors are made. They stand first in the section of their name.
 """
@@ -73,6 +73,18 @@ FIGURES = {
         ("run 3,4,2,0,0,0,0 00 1,3,0,3", "0 0 3,4,2,1,0,4,0 21"),
         ("run 9,3,1,0,0,0,0 0000 9,0,4,2", "0 0 9,3,1,0,0,3,1 2040"),
         ("run 5,3,15,0,0,0,0 00 5,5,5,0", "0 0 5,3,15,0,1,3,0 80"),
+    ],
+    # Rings all 1: the slots count, and nothing behind them; one byte is too short for 12. Then slots 4 to 7 and 12 are 1, of 13; and of 72 the
+    # first and the last.
+    "ring: slots of one bit": [
+        *((f"ring_sum 1 {slots} {'ff' * 3} 0 {slots}", f"0 {slots}") for slots in (1, 7, 8, 9, 12, 16, 24)),
+        ("ring_sum 1 12 ffff 5 5", "0 5"),
+        ("ring_sum 1 12 ffff 5 6", "0 6"),
+        ("ring_sum 1 12 ffff 5 0", "0 0"),
+        ("ring_sum 1 12 ff 5 0", "4 0"),
+        *((f"ring_sum 1 13 0f0f 5 {j}", f"0 {ones}") for j, ones in [(1, 1), (5, 1), (6, 2), (10, 2), (11, 3), (13, 5)]),
+        *((f"ring_sum 1 72 80{'00' * 7}01 1 {j}", f"0 {ones}") for j, ones in [(0, 0), (1, 1), (2, 2), (72, 2)]),
+        *((f"ring_sum 1 72 80{'00' * 7}01 71 {j}", f"0 {ones}") for j, ones in [(70, 0), (71, 1), (72, 2)]),
     ],
     "case G: ranges of width, height and maxval": [
         ("pgm -", "14 0 0 0 0 0 0"),

@@ -1,6 +1,6 @@
 //! Millions of calls, random and adversarial, on both sides; any difference in an answer, a refusal or a lent byte ends the run.
 //!
-//!     differ [ROUNDS]    each round makes one call of each kind (default 1,000,000)
+//!     differ [ROUNDS]    each round makes one call of each kind (default 1,000,000); at the end all sums of 1 to 130 slots of one bit are made once
 
 use bench::cases::crossed;
 use bench::chance::Chance;
@@ -82,6 +82,26 @@ fn slots_call(chance: &mut Chance, t: &mut [Tally]) {
     let p = number(ring::sum(width, slots, &bytes, slot, newest));
     let q = proved::ring_sum(width, slots, &bytes, slot, newest);
     same(&mut t[3], p.refusal, p, q, call);
+}
+
+/// Every sum of a ring of slots of one bit.
+fn every_sum(slots: usize, bytes: &[u8], t: &mut Tally) {
+    for (next, newest) in (0..slots).flat_map(|next| (0..=slots).map(move |newest| (next, newest))) {
+        let p = number(ring::sum(1, slots, bytes, next, newest));
+        let q = proved::ring_sum(1, slots, bytes, next, newest);
+        same(t, p.refusal, p, q, || format!("slots {slots} of one bit, next {next}, newest {newest}, ring {bytes:02x?}"));
+    }
+}
+
+/// 1 to 130 slots of one bit, in rings all 1 and of chance, of as many bytes as they take and of more.
+fn one_bit_sums(chance: &mut Chance, t: &mut Tally) {
+    for slots in 1..=130_usize {
+        let bytes = slots.div_ceil(8);
+        for lent in [bytes, bytes + 1 + chance.below(9) as usize] {
+            every_sum(slots, &vec![0xff; lent], t);
+            every_sum(slots, &chance.bytes(lent), t);
+        }
+    }
 }
 
 /// L, n and D, good ones for the most part.
@@ -416,7 +436,9 @@ fn main() {
         run_call(&mut chance, &mut tallies[10]);
         image_calls(&mut chance, &mut tallies[11..14]);
     }
-    println!("{} calls on both sides, no difference; how many with which refusal:", rounds * names.len() as u64);
+    one_bit_sums(&mut chance, &mut tallies[3]);
+    let calls: u64 = tallies.iter().flat_map(|tally| tally.counts).sum();
+    println!("{calls} calls on both sides, no difference; how many with which refusal:");
     for tally in &tallies {
         let counts = tally.counts.iter().enumerate().filter(|(_, &n)| n > 0);
         let counts: Vec<String> = counts.map(|(refusal, n)| format!("{refusal}: {n}")).collect();

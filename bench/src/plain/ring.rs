@@ -38,10 +38,29 @@ pub(super) fn put(width: usize, ring: &mut [u8], slot: usize, value: u64) {
     }
 }
 
+/// How many of the bits from `from` up to `to` are 1: the bytes between by words, and the two ends by masks.
+fn ones(ring: &[u8], from: usize, to: usize) -> u64 {
+    let masked = |at: usize, mask: u8| u64::from((ring[at] & mask).count_ones());
+    let (first, last) = (from / 8, to / 8);
+    let start: u8 = 0xff >> (from % 8);
+    let end: u8 = !(0xff >> (to % 8));
+    if first == last {
+        return if from < to { masked(first, start & end) } else { 0 };
+    }
+    let words = ring[first + 1..last].chunks_exact(8);
+    let bytes = words.remainder().iter().map(|byte| u64::from(byte.count_ones())).sum::<u64>();
+    let word = |chunk: &[u8]| u64::from_ne_bytes(chunk.try_into().expect("eight bytes"));
+    let words = words.map(|chunk| u64::from(word(chunk).count_ones())).sum::<u64>();
+    masked(first, start) + words + bytes + if end == 0 { 0 } else { masked(last, end) }
+}
+
 /// The sum of the `j` newest slots before `next`, as two runs of slots: those before `next`, and the rest at the ring's end.
 pub(super) fn sum_newest(width: usize, slots: usize, ring: &[u8], next: usize, j: usize) -> u64 {
     let here = j.min(next);
-    let run = |from: usize, to: usize| (from..to).map(|slot| get(width, ring, slot)).sum::<u64>();
+    let run = |from: usize, to: usize| match width {
+        1 => ones(ring, from, to),
+        _ => (from..to).map(|slot| get(width, ring, slot)).sum::<u64>(),
+    };
     run(next - here, next) + run(slots - (j - here), slots)
 }
 

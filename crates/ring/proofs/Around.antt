@@ -95,6 +95,18 @@ sum-on held end slot low high =
     ∙ sum-more held end end (end - slot)
     ∙ ap (λ (at : ℕ). sumNewest held end end (end - slot) + held at) here
 
+-- n + m slots back from an end: the last n, and the m before them
+pub sum-join : (held : ℕ → ℕ) (at n m : ℕ) → m ≤ at
+    → sumNewest held (at + n) (at + n) (n + m) ≡ sumNewest held (at + n) (at + n) n + sumNewest held at at m
+unfolding sumNewest
+sum-join held at n zero h = rw (add-zero n) (sym (add-zero (sumNewest held (at + n) (at + n) n)))
+sum-join held at n (suc m) h =
+    let here : newest (at + n) (at + n) (suc (n + m)) ≡ newest at at (suc m) =
+    newest-near (at + n) (at + n) (suc (n + m)) (omega arith) ∙ omega arith ∙ sym (newest-near at at (suc m) h) in
+    rw (add-suc n m) (
+    ap₂ (λ (sum slot : ℕ). sum + held slot) (sum-join held at n m (omega arith)) here
+    ∙ add-assoc (sumNewest held (at + n) (at + n) n) (sumNewest held at at m) (held (newest at at (suc m))))
+
 -- a sum that does not come to slot 0 is that of a ring which ends at `next` …
 pub sum-near : (held : ℕ → ℕ) (slots next j : ℕ) → j ≤ next → sumNewest held slots next j ≡ sumNewest held next next j
 unfolding sumNewest

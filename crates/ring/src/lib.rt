@@ -5,6 +5,7 @@ ghost use Rattle.refusals.specs.Call.{resultOf, leftOf};
 ghost use Rattle.ring.specs.Calls.{clearCall, readCall, writeCall, sumCall};
 
 mod judge;
+mod ones;
 mod slot;
 mod word;
 

@@ -6,6 +6,7 @@ ghost use lib.ListN.{length, drop, replicate};
 ghost use Rattle.ring.specs.Limits.{widest, mostSlots};
 ghost use Rattle.ring.specs.Slot.{field, written};
 ghost use Rattle.ring.specs.Newest.{sumNewest};
+use crate::ones;
 use crate::word;
 
 // The bytes in which a slot lies: `count` of them from `first` on, and `after` bits behind the slot in the last one.
@@ -68,8 +69,8 @@ pub(crate) fn put(width: usize, ring: &mut [u8], slot: usize, value: u64)
     word::store(ring, first, count, new);
 }
 
-// The sum of the last n of the first `end` slots.
-fn sum_last(width: usize, ring: &[u8], end: usize, n: usize) -> u64
+// The sum of the last n of the first `end` slots, slot by slot.
+fn sum_singly(width: usize, ring: &[u8], end: usize, n: usize) -> u64
     requires { ⌜ (1 ≤ width) × (width ≤ widest) × (end ≤ mostSlots) × (end * width ≤ length (now ring) * 8) × (n ≤ end) ⌝ }
     ensures { λ r. ⌜ r ≡ sumNewest (field width (now (ring .entry))) end end n ⌝ }
 {
@@ -80,6 +81,17 @@ fn sum_last(width: usize, ring: &[u8], end: usize, n: usize) -> u64
         sum += get(width, ring, slot);
     }
     sum
+}
+
+// The same sum, and where a slot is one bit, without reading slot by slot (request C-14).
+fn sum_last(width: usize, ring: &[u8], end: usize, n: usize) -> u64
+    requires { ⌜ (1 ≤ width) × (width ≤ widest) × (end ≤ mostSlots) × (end * width ≤ length (now ring) * 8) × (n ≤ end) ⌝ }
+    ensures { λ r. ⌜ r ≡ sumNewest (field width (now (ring .entry))) end end n ⌝ }
+{
+    if width == 1 {
+        return ones::of_last(ring, end, n);
+    }
+    sum_singly(width, ring, end, n)
 }
 
 // The sum of the j newest slots before the slot `next`: those below it, and then the last ones of the ring.

@@ -14,7 +14,7 @@ pub(crate) fn power(n: usize) -> u64
 }
 
 // The byte at a place, as a wider number.
-fn byte(ring: &[u8], at: usize) -> u64
+pub(crate) fn byte(ring: &[u8], at: usize) -> u64
     requires { ⌜ at < length (now ring) ⌝ }
     ensures { λ r. ⌜ (r ≡ getD (now (ring .entry)) at 0) × (r ≤ 255) ⌝ }
 {
