@@ -50,7 +50,8 @@ enum {
     UPRZEZAR_IMAGE_TOO_LARGE = 13, /* the image takes more than 24,576 bytes */
     UPRZEZAR_ENDS_TOO_EARLY = 14,  /* the image goes on behind the bytes lent */
     UPRZEZAR_PIXEL_TOO_LARGE = 15, /* a pixel is above maxval */
-    UPRZEZAR_IMAGES_DIFFER = 16    /* the two images have not the same width, height and maxval */
+    UPRZEZAR_IMAGES_DIFFER = 16,   /* the two images have not the same width, height and maxval */
+    UPRZEZAR_BOOK_RESTS = 17       /* the book rests, and takes no items */
 };
 
 /* The verdicts. What they say of the window is for a book from a good start: the latest record, and a ring changed by nothing else. */
@@ -58,7 +59,8 @@ enum {
     UPRZEZAR_NO_VERDICT = 0,
     UPRZEZAR_LIVE = 1,      /* of a book from a good start: the window truly holds the amount */
     UPRZEZAR_FROZEN = 2,    /* of a book from a good start: the window truly holds less */
-    UPRZEZAR_UNDECIDED = 3  /* every other case: nothing is claimed */
+    UPRZEZAR_UNDECIDED = 3, /* every other case while the book is awake: nothing is claimed */
+    UPRZEZAR_RESTING = 4    /* the book rests: nothing is claimed of the amount */
 };
 
 /* What follows from a book's bound, length and tolerance. */
@@ -84,6 +86,9 @@ typedef struct {
     uint64_t phase;
     uint64_t kept;
     uint64_t head;
+    uint64_t resting; /* 0: awake; anything else: the book rests. uprzezar_open and uprzezar_wake set 0, uprzezar_rest sets 1, and
+                         uprzezar_add and uprzezar_run hand it back as it came; whatever it is, it is no ground for refusal 8. Set it by
+                         these calls: a book whose record was changed by hand is not one from a good start */
 } uprzezar_book;
 
 typedef struct {
@@ -108,9 +113,11 @@ typedef struct {
     uint64_t window;
 } uprzezar_window;
 
+/* What the page is told: the verdict, the window that was asked for, and its figure; all three are 0 at a refusal. */
 typedef struct {
     uint8_t refusal;
     uint8_t verdict;
+    uint64_t window;
     uint64_t figure;
 } uprzezar_ruled;
 
@@ -150,17 +157,17 @@ UPRZEZAR_ASSERT(sizeof(uprzezar_shape_numbers) == 40 && offsetof(uprzezar_shape_
 UPRZEZAR_ASSERT(offsetof(uprzezar_shape_numbers, largest) == 16 && offsetof(uprzezar_shape_numbers, width) == 24, "shape numbers");
 UPRZEZAR_ASSERT(offsetof(uprzezar_shape_numbers, bytes) == 32, "shape numbers");
 UPRZEZAR_ASSERT(sizeof(uprzezar_shaped) == 48 && offsetof(uprzezar_shaped, shape) == 8, "shaped");
-UPRZEZAR_ASSERT(sizeof(uprzezar_book) == 56, "book");
+UPRZEZAR_ASSERT(sizeof(uprzezar_book) == 64 && offsetof(uprzezar_book, resting) == 56, "book");
 UPRZEZAR_ASSERT(offsetof(uprzezar_book, length) == 8 && offsetof(uprzezar_book, tolerance) == 16, "book");
 UPRZEZAR_ASSERT(offsetof(uprzezar_book, carry) == 24 && offsetof(uprzezar_book, phase) == 32, "book");
 UPRZEZAR_ASSERT(offsetof(uprzezar_book, kept) == 40 && offsetof(uprzezar_book, head) == 48, "book");
-UPRZEZAR_ASSERT(sizeof(uprzezar_updated) == 64 && offsetof(uprzezar_updated, book) == 8, "updated");
-UPRZEZAR_ASSERT(sizeof(uprzezar_ran) == 72 && offsetof(uprzezar_ran, place) == 8, "ran");
+UPRZEZAR_ASSERT(sizeof(uprzezar_updated) == 72 && offsetof(uprzezar_updated, book) == 8, "updated");
+UPRZEZAR_ASSERT(sizeof(uprzezar_ran) == 80 && offsetof(uprzezar_ran, place) == 8, "ran");
 UPRZEZAR_ASSERT(offsetof(uprzezar_ran, book) == 16, "ran");
 UPRZEZAR_ASSERT(sizeof(uprzezar_figure) == 16 && offsetof(uprzezar_figure, figure) == 8, "figure");
 UPRZEZAR_ASSERT(sizeof(uprzezar_window) == 16 && offsetof(uprzezar_window, window) == 8, "window");
-UPRZEZAR_ASSERT(sizeof(uprzezar_ruled) == 16 && offsetof(uprzezar_ruled, verdict) == 1, "ruled");
-UPRZEZAR_ASSERT(offsetof(uprzezar_ruled, figure) == 8, "ruled");
+UPRZEZAR_ASSERT(sizeof(uprzezar_ruled) == 24 && offsetof(uprzezar_ruled, verdict) == 1, "ruled");
+UPRZEZAR_ASSERT(offsetof(uprzezar_ruled, window) == 8 && offsetof(uprzezar_ruled, figure) == 16, "ruled");
 UPRZEZAR_ASSERT(sizeof(uprzezar_answer) == 16 && offsetof(uprzezar_answer, value) == 8, "answer");
 UPRZEZAR_ASSERT(sizeof(uprzezar_numbers) == 48 && offsetof(uprzezar_numbers, width) == 8, "numbers");
 UPRZEZAR_ASSERT(offsetof(uprzezar_numbers, height) == 16 && offsetof(uprzezar_numbers, maxval) == 24, "numbers");
@@ -182,13 +189,22 @@ uprzezar_shaped uprzezar_shape(uint64_t bound, uint64_t length, uint64_t toleran
    uprzezar_shape tells. Refusals: 1, 2, 3, 4. */
 uprzezar_updated uprzezar_open(uint64_t bound, uint64_t length, uint64_t tolerance, uint8_t *ring, size_t ring_bytes);
 
-/* Adds one item. Refusals: 8, 4, 7. */
+/* Adds one item. Refusals: 8, 4, 17, 7. */
 uprzezar_updated uprzezar_add(uprzezar_book book, uint8_t *ring, size_t ring_bytes, uint64_t item);
 
 /* Adds a run of counts, `how_many` of them: record and ring come out as by one uprzezar_add for each count in turn. No count is taken before
    every one was looked at: all are taken or none. With refusal 7 `place` is that of the first count above the bound, from 1; otherwise it is
-   0. A run of no counts leaves all as it is; its pointer too is not null. The counts and the ring do not overlap. Refusals: 8, 4, 7. */
+   0. A run of no counts leaves all as it is; while the book rests it is refused with 17 like any other run. Its pointer is not null either.
+   The counts and the ring do not overlap. Refusals: 8, 4, 17, 7. */
 uprzezar_ran uprzezar_run(uprzezar_book book, uint8_t *ring, size_t ring_bytes, const uint64_t *counts, size_t how_many);
+
+/* Puts a book to rest: sets `resting` to 1 and changes nothing else. Go on with the record that comes back: with it, and with the ring lent
+   whole, items and runs are refused with 17, the verdict is UPRZEZAR_RESTING where it is not refused, and totals and how far back answer as
+   before. The call may come twice. Refusals: 8. */
+uprzezar_updated uprzezar_rest(uprzezar_book book);
+
+/* Wakes a book: sets `resting` to 0 and changes nothing else. Go on with the record that comes back. The call may come twice. Refusals: 8. */
+uprzezar_updated uprzezar_wake(uprzezar_book book);
 
 /* The figure for the last `window` items: for a book from a good start (the latest record, a ring changed by nothing else) never above
    their true total, and short of it by less than the tolerance. A window of 0 gives 0. Refusals: 8, 4, 5. */
@@ -199,7 +215,8 @@ uprzezar_figure uprzezar_total(uprzezar_book book, const uint8_t *ring, size_t r
    so does every window that is kept. Refusals: 8, 4, 6, 9. */
 uprzezar_window uprzezar_far(uprzezar_book book, const uint8_t *ring, size_t ring_bytes, uint64_t amount);
 
-/* The verdict for a window and an amount, with the window's figure. Refusals: 8, 4, 6, 5. */
+/* The verdict for a window and an amount, with the window and its figure. While the book rests it is UPRZEZAR_RESTING, whatever the amount:
+   the refusals still come first, and window and figure still come with it. Refusals: 8, 4, 6, 5. */
 uprzezar_ruled uprzezar_verdict(uprzezar_book book, const uint8_t *ring, size_t ring_bytes, uint64_t window, uint64_t amount);
 
 /* Images: binary PGM with maxval 1 to 65,535. Above maxval 255 each pixel is two bytes, the higher first; otherwise it is one.

@@ -7,6 +7,9 @@ from calls import TOP, around, call
 from life import Life
 from model import Record
 
+# The numbers of a record that 8 looks at: all but the mark.
+JUDGED = Record._fields[:-1]
+
 
 def bad_openings():
     """Each range left to either side, the largest numbers, and the largest D that opens."""
@@ -132,8 +135,8 @@ def changed_records():
     """Case A's record with one number changed, at an edge or as large as it can be, and with all of them so; the first of all is a book."""
     base = Record(5, 6, 10, 13, 1, 6, 0)
     changed = [{}, {"L": 0}, {"L": 65536}, {"n": 0}, {"n": 4097}, {"D": 0}, {"D": 31}, {"kept": 7}, {"kept": 0}, {"p": 2}]
-    changed += [{"head": 3}, {"R": 14}, {"R": 15}] + [{name: TOP} for name in Record._fields]
-    return [base._replace(**numbers) for numbers in changed] + [Record(*[TOP] * 7)]
+    changed += [{"head": 3}, {"R": 14}, {"R": 15}] + [{name: TOP} for name in JUDGED]
+    return [base._replace(**numbers) for numbers in changed] + [Record(*[TOP] * len(JUDGED))]
 
 
 def no_books():
@@ -151,7 +154,7 @@ def off_by_one(rng):
     for base in (Record(5, 6, 10, 13, 1, 6, 0), Record(3, 4, 2, 1, 0, 4, 0), Record(600, 1440, 3600, 0, 5, 1440, 239)):
         size = model.book_bytes(base.L, base.n, base.D)
         ring = rng.randbytes(size)
-        for name in Record._fields:
+        for name in JUDGED:
             for value in around(*thresholds(base, name)):
                 yield from asked(base._replace(**{name: value}), ring)
         yield from asked(base, ring[:-1])
@@ -185,9 +188,9 @@ def asked(record, ring):
 
 
 def wild_records(rng, count):
-    """Seven numbers of any size: nearly always 8."""
+    """The numbers that 8 looks at, of any size: nearly always 8."""
     for _ in range(count):
-        numbers = [rng.choice([0, 1, rng.randint(0, 20), rng.randint(0, 70000), rng.randint(0, TOP), TOP]) for _ in range(7)]
+        numbers = [rng.choice([0, 1, rng.randint(0, 20), rng.randint(0, 70000), rng.randint(0, TOP), TOP]) for _ in JUDGED]
         record, ring = Record(*numbers), rng.randbytes(rng.randint(0, 4))
         yield from rng.sample(list(asked(record, ring)), 2)
 

@@ -21,5 +21,13 @@ class Life:
         self.lines.append(self.ask("run", counts))
         _, _, self.record, self.ring = model.run(self.record, self.ring, counts)
 
+    def rest(self):
+        self.lines.append(call("rest", self.record))
+        _, self.record = model.rest(self.record)
+
+    def wake(self):
+        self.lines.append(call("wake", self.record))
+        _, self.record = model.wake(self.record)
+
     def ask(self, name, *arguments):
         return call(name, self.record, self.ring, *arguments)

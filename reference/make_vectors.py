@@ -18,6 +18,7 @@ import image_calls
 import model
 import other_lines
 import paper_cases
+import rest_calls
 import ring_calls
 import run_calls
 import score_calls
@@ -30,7 +31,7 @@ HOME = Path(__file__).resolve().parent.parent / "crates" / "vectors"
 def sections():
     """Every section's name and calls, in order. Random ones have a seed each, so that a change in one leaves the others as they are."""
     yield "lines of the format", []
-    parts = (paper_cases, ring_calls, book_calls, run_calls, image_calls, comment_calls, two_byte_calls, score_calls, other_lines)
+    parts = (paper_cases, ring_calls, book_calls, run_calls, rest_calls, image_calls, comment_calls, two_byte_calls, score_calls, other_lines)
     for part in parts:
         yield from part.sections()
 

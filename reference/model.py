@@ -15,7 +15,8 @@ LARGEST_SIDE = 1024
 LARGEST_MAXVAL = 65535
 IMAGE_LIMIT = 24576
 
-Record = namedtuple("Record", "L n D R p kept head")
+# A record for which no mark is named has the mark 0.
+Record = namedtuple("Record", "L n D R p kept head mark", defaults=[0])
 NO_RECORD = Record(0, 0, 0, 0, 0, 0, 0)
 
 
@@ -150,7 +151,7 @@ def shape(L, n, D):
 
 
 def is_book(r):
-    """Not 8: every number of the record where a book can have it."""
+    """Not 8: every number of the record where a book can have it; the mark may be any."""
     if numbers_refusal(r.L, r.n, r.D):
         return False
     return (
@@ -170,14 +171,24 @@ def book_refusal(r, ring):
     return 0
 
 
+def rests(r):
+    """Any mark but 0 is one of rest."""
+    return r.mark != 0
+
+
+def taking_refusal(r, ring):
+    """8, 4, 17: how every call that takes items begins."""
+    return book_refusal(r, ring) or (17 if rests(r) else 0)
+
+
 def open_book(L, n, D, ring):
-    """1, 2, 3, 4; a refused opening gives a record of zeros."""
+    """1, 2, 3, 4; a refused opening gives a record of zeros. The mark is cleared."""
     refusal = numbers_refusal(L, n, D)
     if not refusal and len(ring) < book_bytes(L, n, D):
         refusal = 4
     if refusal:
         return refusal, NO_RECORD, ring
-    return 0, Record(L, n, D, 0, 0, 0, 0), cleared(ring, book_bytes(L, n, D))
+    return 0, Record(L, n, D, R=0, p=0, kept=0, head=0, mark=0), cleared(ring, book_bytes(L, n, D))
 
 
 def block_closed(r, ring):
@@ -189,8 +200,8 @@ def block_closed(r, ring):
 
 
 def add(r, ring, x):
-    """8, 4, 7; otherwise the item is taken, and a block that it fills is closed."""
-    refusal = book_refusal(r, ring)
+    """8, 4, 17, 7; otherwise the item is taken, and a block that it fills is closed."""
+    refusal = taking_refusal(r, ring)
     if not refusal and x > r.L:
         refusal = 7
     if refusal:
@@ -202,8 +213,8 @@ def add(r, ring, x):
 
 
 def run(r, ring, counts):
-    """8, 4, 7; with 7 the place, from 1, of the first count above L. All counts are looked at before one is taken."""
-    refusal = book_refusal(r, ring)
+    """8, 4, 17, 7; with 7 the place, from 1, of the first count above L. All counts are looked at before one is taken."""
+    refusal = taking_refusal(r, ring)
     if refusal:
         return refusal, 0, r, ring
     above = [place for place, x in enumerate(counts, 1) if x > r.L]
@@ -212,6 +223,21 @@ def run(r, ring, counts):
     for x in counts:
         _, r, ring = add(r, ring, x)
     return 0, 0, r, ring
+
+
+def set_mark(r, mark):
+    """8; otherwise the record with this mark, whichever it had."""
+    return (0, r._replace(mark=mark)) if is_book(r) else (8, r)
+
+
+def rest(r):
+    """8; a book that rests already goes on resting."""
+    return set_mark(r, 1)
+
+
+def wake(r):
+    """8; a book that is awake already stays so."""
+    return set_mark(r, 0)
 
 
 def fields_of(r, ring):
@@ -257,7 +283,7 @@ def far(r, ring, v):
 
 
 def verdict(r, ring, w, v):
-    """8, 4, 6, 5; then the word and the figure."""
+    """8, 4, 6, 5; then the word and the figure. While the book rests no amount decides the word."""
     refusal = book_refusal(r, ring)
     if not refusal and (v == 0 or w == 0):
         refusal = 6
@@ -266,6 +292,8 @@ def verdict(r, ring, w, v):
     if refusal:
         return refusal, "none", 0
     f = figure(r, fields_of(r, ring), w)
+    if rests(r):
+        return 0, "resting", f
     if f >= v:
         return 0, "live", f
     return 0, "frozen" if f + r.D - 1 < v else "undecided", f
@@ -441,7 +469,7 @@ def take_bytes(text):
 
 def take_record(text):
     numbers = [take_number(part) for part in text.split(",")]
-    if len(numbers) != len(NO_RECORD):
+    if len(numbers) != len(Record._fields):
         raise Unreadable
     return Record(*numbers)
 
@@ -476,6 +504,8 @@ CALLS = {
     "open": (open_book, (N, N, N, Y)),
     "add": (add, (R, Y, N)),
     "run": (run, (R, Y, C)),
+    "rest": (rest, (R,)),
+    "wake": (wake, (R,)),
     "total": (total, (R, Y, N)),
     "far": (far, (R, Y, N)),
     "verdict": (verdict, (R, Y, N, N)),

@@ -1,12 +1,13 @@
-"""Figures worked by hand, as calls and answers: the cases A to G of docs/SCOPE.md, slots of one bit, comments in headers, pixels of two
-bytes, and the lines of the vectors' format.
+"""Figures worked by hand, as calls and answers: the cases A to G of docs/SCOPE.md, slots of one bit, books at rest, comments in headers,
+pixels of two bytes, and the lines of the vectors' format.
 
 The model is held to them each time the vectors are made. They stand first in the section of their name.
 """
 
 import model
 
-A = "5,6,10,13,1,6,0 40"
+A = "5,6,10,13,1,6,0,0 40"
+A_AT_REST = "5,6,10,13,1,6,0,1 40"
 # The program's first two images, with comments of different places and lengths.
 DARK = b"P5 #c\n2 2 255\n" + bytes(4)
 LIT = b"P5# a longer one\r 2 2 255#\n\n" + bytes([20, 12, 13, 0])
@@ -19,60 +20,118 @@ def pgm(*images):
 
 FIGURES = {
     "lines of the format": [
-        ("open 5 6 10 ff", "0 5,6,10,0,0,0,0 00"),
-        ("add 5,6,10,13,1,6,0 40 2", "0 5,6,10,5,0,6,1 c0"),
-        ("total 5,6,10,13,1,6,0 40 5", "0 14"),
-        ("far 5,6,10,13,1,6,0 40 15", "9 0"),
-        ("verdict 5,6,10,13,1,6,0 40 4 18", "0 undecided 9"),
+        ("open 5 6 10 ff", "0 5,6,10,0,0,0,0,0 00"),
+        ("add 5,6,10,13,1,6,0,0 40 2", "0 5,6,10,5,0,6,1,0 c0"),
+        ("total 5,6,10,13,1,6,0,0 40 5", "0 14"),
+        ("far 5,6,10,13,1,6,0,0 40 15", "9 0"),
+        ("verdict 5,6,10,13,1,6,0,0 40 4 18", "0 undecided 9"),
         ("pgm 50350a322032203235350a00000000", "0 2 2 255 15 11 4"),
     ],
     "case A: windows": [
         *((f"total {A} {i}", f"0 {figure}") for i, figure in enumerate([0, 4, 4, 4, 9, 14, 14])),
         (f"total {A} 7", "5 0"),
-        ("total 5,6,10,5,0,6,1 c0 6", "0 16"),
+        ("total 5,6,10,5,0,6,1,0 c0 6", "0 16"),
     ],
     "case A: how far back": [(f"far {A} {v}", answer) for v, answer in [(4, "0 1"), (5, "0 4"), (14, "0 5"), (15, "9 0")]],
     "case A: verdicts": [
         (f"verdict {A} 4 {v}", f"0 {word} 9") for v, word in [(9, "live"), (10, "undecided"), (18, "undecided"), (19, "frozen")]
     ],
     "case B: record, ring and windows": [
-        (f"total 3,4,2,1,0,4,0 21 {i}", f"0 {figure}") for i, figure in [(1, 2), (2, 2), (3, 6), (4, 6)]
+        (f"total 3,4,2,1,0,4,0,0 21 {i}", f"0 {figure}") for i, figure in [(1, 2), (2, 2), (3, 6), (4, 6)]
     ],
     "case C: record, ring and windows": [
-        (f"total 9,3,1,0,0,3,1 2040 {i}", f"0 {figure}") for i, figure in [(1, 2), (2, 6), (3, 6)]
+        (f"total 9,3,1,0,0,3,1,0 2040 {i}", f"0 {figure}") for i, figure in [(1, 2), (2, 6), (3, 6)]
     ],
     "case D: slots and tolerance": [
-        ("open 5 3 15 ff", "0 5,3,15,0,0,0,0 00"),
-        ("open 5 3 16 ff", "3 0,0,0,0,0,0,0 ff"),
+        ("open 5 3 15 ff", "0 5,3,15,0,0,0,0,0 00"),
+        ("open 5 3 16 ff", "3 0,0,0,0,0,0,0,0 ff"),
     ],
     "case E: items and a ring of no bytes": [
-        (f"add {A} 5", "0 5,6,10,8,0,6,1 c0"),
+        (f"add {A} 5", "0 5,6,10,8,0,6,1,0 c0"),
         (f"add {A} 6", f"7 {A}"),
-        ("add 5,6,10,13,1,6,0 - 5", "4 5,6,10,13,1,6,0 -"),
-        ("open 5 6 10 -", "4 0,0,0,0,0,0,0 -"),
+        ("add 5,6,10,13,1,6,0,0 - 5", "4 5,6,10,13,1,6,0,0 -"),
+        ("open 5 6 10 -", "4 0,0,0,0,0,0,0,0 -"),
     ],
     "case F: kept 0": [
-        ("far 5,6,10,0,0,0,0 00 1", "9 0"),
-        ("total 5,6,10,0,0,0,0 00 0", "0 0"),
-        ("total 5,6,10,0,0,0,0 00 1", "5 0"),
+        ("far 5,6,10,0,0,0,0,0 00 1", "9 0"),
+        ("total 5,6,10,0,0,0,0,0 00 0", "0 0"),
+        ("total 5,6,10,0,0,0,0,0 00 1", "5 0"),
     ],
     # Case A in one call; a count above L; no counts; from its record on; a record that is none; rings of no bytes. Then B, C and D in one call.
     "cases A to D: runs": [
-        ("run 5,6,10,0,0,0,0 00 3,4,5,5,0,1,5", "0 0 5,6,10,13,1,6,0 40"),
-        ("run 5,6,10,0,0,0,0 00 3,4,6,5,0,1,5", "7 3 5,6,10,0,0,0,0 00"),
-        ("run 5,6,10,0,0,0,0 00 3,4,6,5,0,1,6", "7 3 5,6,10,0,0,0,0 00"),
-        ("run 5,6,10,0,0,0,0 00 -", "0 0 5,6,10,0,0,0,0 00"),
+        ("run 5,6,10,0,0,0,0,0 00 3,4,5,5,0,1,5", "0 0 5,6,10,13,1,6,0,0 40"),
+        ("run 5,6,10,0,0,0,0,0 00 3,4,6,5,0,1,5", "7 3 5,6,10,0,0,0,0,0 00"),
+        ("run 5,6,10,0,0,0,0,0 00 3,4,6,5,0,1,6", "7 3 5,6,10,0,0,0,0,0 00"),
+        ("run 5,6,10,0,0,0,0,0 00 -", "0 0 5,6,10,0,0,0,0,0 00"),
         (f"run {A} -", f"0 0 {A}"),
-        (f"run {A} 2", "0 0 5,6,10,5,0,6,1 c0"),
-        (f"run {A} 5", "0 0 5,6,10,8,0,6,1 c0"),
+        (f"run {A} 2", "0 0 5,6,10,5,0,6,1,0 c0"),
+        (f"run {A} 5", "0 0 5,6,10,8,0,6,1,0 c0"),
         (f"run {A} 6", f"7 1 {A}"),
         (f"run {A} 5,6", f"7 2 {A}"),
-        ("run 5,6,10,15,1,6,0 40 6", "8 0 5,6,10,15,1,6,0 40"),
-        ("run 5,6,10,15,1,6,0 - -", "8 0 5,6,10,15,1,6,0 -"),
-        *((f"run 5,6,10,13,1,6,0 - {counts}", "4 0 5,6,10,13,1,6,0 -") for counts in ("5", "6", "-")),
-        ("run 3,4,2,0,0,0,0 00 1,3,0,3", "0 0 3,4,2,1,0,4,0 21"),
-        ("run 9,3,1,0,0,0,0 0000 9,0,4,2", "0 0 9,3,1,0,0,3,1 2040"),
-        ("run 5,3,15,0,0,0,0 00 5,5,5,0", "0 0 5,3,15,0,1,3,0 80"),
+        ("run 5,6,10,15,1,6,0,0 40 6", "8 0 5,6,10,15,1,6,0,0 40"),
+        ("run 5,6,10,15,1,6,0,0 - -", "8 0 5,6,10,15,1,6,0,0 -"),
+        *((f"run 5,6,10,13,1,6,0,0 - {counts}", "4 0 5,6,10,13,1,6,0,0 -") for counts in ("5", "6", "-")),
+        ("run 3,4,2,0,0,0,0,0 00 1,3,0,3", "0 0 3,4,2,1,0,4,0,0 21"),
+        ("run 9,3,1,0,0,0,0,0 0000 9,0,4,2", "0 0 9,3,1,0,0,3,1,0 2040"),
+        ("run 5,3,15,0,0,0,0,0 00 5,5,5,0", "0 0 5,3,15,0,1,3,0,0 80"),
+    ],
+    # Each call twice, and from a mark that neither call sets.
+    "rest: setting and clearing the mark": [
+        ("rest 5,6,10,13,1,6,0,0", "0 5,6,10,13,1,6,0,1"),
+        ("rest 5,6,10,13,1,6,0,1", "0 5,6,10,13,1,6,0,1"),
+        ("wake 5,6,10,13,1,6,0,1", "0 5,6,10,13,1,6,0,0"),
+        ("wake 5,6,10,13,1,6,0,0", "0 5,6,10,13,1,6,0,0"),
+        ("rest 5,6,10,13,1,6,0,256", "0 5,6,10,13,1,6,0,1"),
+        ("wake 5,6,10,13,1,6,0,256", "0 5,6,10,13,1,6,0,0"),
+    ],
+    # R may be 9 + 1 * 5 = 14. The mark comes back as it came.
+    "rest: records that are no book": [
+        ("rest 5,6,10,14,1,6,0,0", "0 5,6,10,14,1,6,0,1"),
+        ("rest 5,6,10,15,1,6,0,0", "8 5,6,10,15,1,6,0,0"),
+        ("wake 5,6,10,15,1,6,0,1", "8 5,6,10,15,1,6,0,1"),
+        ("wake 5,6,10,15,1,6,0,256", "8 5,6,10,15,1,6,0,256"),
+        ("rest 0,0,0,0,0,0,0,0", "8 0,0,0,0,0,0,0,0"),
+    ],
+    # An item that awake is taken and one above L, runs of them and an empty one; before 17 come 8 and 4.
+    "rest: items and runs": [
+        *((f"add {A_AT_REST} {x}", f"17 {A_AT_REST}") for x in (2, 6)),
+        *((f"run {A_AT_REST} {counts}", f"17 0 {A_AT_REST}") for counts in ("2", "2,6", "-")),
+        ("add 5,6,10,15,1,6,0,1 - 6", "8 5,6,10,15,1,6,0,1 -"),
+        ("add 5,6,10,13,1,6,0,1 - 6", "4 5,6,10,13,1,6,0,1 -"),
+        ("run 5,6,10,15,1,6,0,1 - 6", "8 0 5,6,10,15,1,6,0,1 -"),
+        ("run 5,6,10,13,1,6,0,1 - 6", "4 0 5,6,10,13,1,6,0,1 -"),
+        ("add 5,6,10,13,1,6,0,256 40 2", "17 5,6,10,13,1,6,0,256 40"),
+    ],
+    "rest: totals and how far back": [
+        *((f"total {A_AT_REST} {i}", f"0 {figure}") for i, figure in enumerate([0, 4, 4, 4, 9, 14, 14])),
+        (f"total {A_AT_REST} 7", "5 0"),
+        *((f"far {A_AT_REST} {v}", answer) for v, answer in [(0, "6 0"), (4, "0 1"), (5, "0 4"), (14, "0 5"), (15, "9 0")]),
+    ],
+    # Amounts that awake are live, undecided and frozen; another window; then what is refused awake too.
+    "rest: verdicts": [
+        *((f"verdict {A_AT_REST} 4 {v}", "0 resting 9") for v in (9, 10, 18, 19)),
+        (f"verdict {A_AT_REST} 5 19", "0 resting 14"),
+        *((f"verdict {A_AT_REST} {asked}", "6 none 0") for asked in ("4 0", "0 9", "7 0")),
+        (f"verdict {A_AT_REST} 7 9", "5 none 0"),
+        ("verdict 5,6,10,13,1,6,0,1 - 7 0", "4 none 0"),
+        ("verdict 5,6,10,15,1,6,0,1 - 7 0", "8 none 0"),
+    ],
+    "rest: openings": [
+        ("open 5 6 10 ff", "0 5,6,10,0,0,0,0,0 00"),
+        ("open 5 6 31 ff", "3 0,0,0,0,0,0,0,0 ff"),
+    ],
+    "rest: case A, a rest before each item": [
+        (f"add {A_AT_REST} 2", f"17 {A_AT_REST}"),
+        ("wake 5,6,10,13,1,6,0,1", "0 5,6,10,13,1,6,0,0"),
+        (f"add {A} 2", "0 5,6,10,5,0,6,1,0 c0"),
+    ],
+    # Seven numbers, nine, and marks of 2^64 - 1 and 2^64.
+    "rest: lines that cannot be read, and some that just can": [
+        ("rest 5,6,10,13,1,6,0", "?"),
+        ("rest 5,6,10,13,1,6,0,1,0", "?"),
+        ("rest 5,6,10,13,1,6,0,18446744073709551615", "0 5,6,10,13,1,6,0,1"),
+        ("rest 5,6,10,13,1,6,0,18446744073709551616", "?"),
+        ("rest 5,6,10,13,1,6,0,1 40", "?"),
     ],
     # Rings all 1: the slots count, and nothing behind them; one byte is too short for 12. Then slots 4 to 7 and 12 are 1, of 13; and of 72 the
     # first and the last.
@@ -199,10 +258,10 @@ FIGURES = {
 
 # L, n, D, the items, and the record and ring that they leave.
 LIVES = [
-    (5, 6, 10, [3, 4, 5, 5, 0, 1, 5], "5,6,10,13,1,6,0 40"),
-    (5, 6, 10, [3, 4, 5, 5, 0, 1, 5, 2], "5,6,10,5,0,6,1 c0"),
-    (3, 4, 2, [1, 3, 0, 3], "3,4,2,1,0,4,0 21"),
-    (9, 3, 1, [9, 0, 4, 2], "9,3,1,0,0,3,1 2040"),
+    (5, 6, 10, [3, 4, 5, 5, 0, 1, 5], "5,6,10,13,1,6,0,0 40"),
+    (5, 6, 10, [3, 4, 5, 5, 0, 1, 5, 2], "5,6,10,5,0,6,1,0 c0"),
+    (3, 4, 2, [1, 3, 0, 3], "3,4,2,1,0,4,0,0 21"),
+    (9, 3, 1, [9, 0, 4, 2], "9,3,1,0,0,3,1,0 2040"),
 ]
 
 
@@ -223,6 +282,16 @@ def at_once(record, ring, items):
     return model.run(record, ring, items)[2:]
 
 
+def with_rests(record, ring, items):
+    """The record and the ring after an adding for each of the items, each tried before that while the book rests."""
+    for x in items:
+        _, record = model.rest(record)
+        record, ring = one_by_one(record, ring, [x])
+        _, record = model.wake(record)
+        record, ring = one_by_one(record, ring, [x])
+    return record, ring
+
+
 def after(way, L, n, D, items):
     """The record and the ring of a book opened and given the items in this way, as they are written on a line."""
     _, record, ring = model.open_book(L, n, D, b"\xff" * model.book_bytes(L, n, D))
@@ -235,6 +304,6 @@ def faults():
         if model.answer(line) != expected:
             yield f"{line}: the model answers {model.answer(line)}, worked by hand {expected}"
     for L, n, D, items, expected in LIVES:
-        for way in (one_by_one, at_once):
+        for way in (one_by_one, at_once, with_rests):
             if after(way, L, n, D, items) != expected:
                 yield f"items {items}, {way.__name__}: the model leaves {after(way, L, n, D, items)}, worked by hand {expected}"

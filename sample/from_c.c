@@ -16,7 +16,7 @@ int main(void) {
     free(ring);
     if (page.refusal != 0)
         return page.refusal;
-    printf("%s: at least %" PRIu64 " pixels changed over the last 30 frames\n", page.verdict == UPRZEZAR_LIVE ? "live" : "not live",
-           page.figure);
+    static const char *const words[] = {"", "live", "frozen", "undecided", "resting"};
+    printf("%s: at least %" PRIu64 " pixels changed over the last %" PRIu64 " frames\n", words[page.verdict], page.figure, page.window);
     return 0;
 }

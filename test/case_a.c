@@ -1,20 +1,26 @@
-/* Case A of docs/SCOPE.md, through the header, item by item and as one run, the small pictures of its program, pictures of two bytes a
-   pixel, and headers with comments; the shapes of its book and of the box's. */
+/* Case A of docs/SCOPE.md, through the header, item by item and as one run, its book at rest, the small pictures of its program, pictures of
+   two bytes a pixel, and headers with comments; the shapes of its book and of the box's. */
 #include "../include/uprzezar.h"
 
 #include <inttypes.h>
 #include <stdio.h>
 
 static const char *word(uint8_t verdict) {
-    static const char *const words[] = {"none", "live", "frozen", "undecided"};
+    static const char *const words[] = {"none", "live", "frozen", "undecided", "resting"};
     return words[verdict];
 }
 
 static uprzezar_book state(uprzezar_updated answer, const uint8_t *ring) {
     uprzezar_book b = answer.book;
-    printf("refusal %u: carry %" PRIu64 ", phase %" PRIu64 ", kept %" PRIu64 ", head %" PRIu64 ", ring %02x\n", answer.refusal, b.carry,
-           b.phase, b.kept, b.head, ring[0]);
+    printf("refusal %u: carry %" PRIu64 ", phase %" PRIu64 ", kept %" PRIu64 ", head %" PRIu64 ", resting %" PRIu64 ", ring %02x\n",
+           answer.refusal, b.carry, b.phase, b.kept, b.head, b.resting, ring[0]);
     return b;
+}
+
+static void verdict(uprzezar_book b, const uint8_t *ring, uint64_t window, uint64_t amount) {
+    uprzezar_ruled r = uprzezar_verdict(b, ring, 1, window, amount);
+    printf("window %" PRIu64 ", amount %" PRIu64 ": refusal %u, %s, window %" PRIu64 ", figure %" PRIu64 "\n", window, amount, r.refusal,
+           word(r.verdict), r.window, r.figure);
 }
 
 static void shape(uint64_t bound, uint64_t length, uint64_t tolerance) {
@@ -49,10 +55,8 @@ static void book(void) {
         uprzezar_window w = uprzezar_far(b, ring, 1, amounts[i]);
         printf("how far back for %" PRIu64 ": refusal %u, window %" PRIu64 "\n", amounts[i], w.refusal, w.window);
     }
-    for (i = 0; i < 4; i++) {
-        uprzezar_ruled r = uprzezar_verdict(b, ring, 1, 4, asked[i]);
-        printf("window 4, amount %" PRIu64 ": refusal %u, %s, figure %" PRIu64 "\n", asked[i], r.refusal, word(r.verdict), r.figure);
-    }
+    for (i = 0; i < 4; i++)
+        verdict(b, ring, 4, asked[i]);
     state(uprzezar_add(b, ring, 1, 6), ring);
     state(uprzezar_add(b, ring, 0, 5), ring);
     state(uprzezar_add(b, ring, 1, 2), ring);
@@ -61,8 +65,9 @@ static void book(void) {
 
 static uprzezar_book ran(uprzezar_ran answer, const uint8_t *ring) {
     uprzezar_book b = answer.book;
-    printf("run: refusal %u, place %" PRIu64 ": carry %" PRIu64 ", phase %" PRIu64 ", kept %" PRIu64 ", head %" PRIu64 ", ring %02x\n",
-           answer.refusal, answer.place, b.carry, b.phase, b.kept, b.head, ring[0]);
+    printf("run: refusal %u, place %" PRIu64 ": carry %" PRIu64 ", phase %" PRIu64 ", kept %" PRIu64 ", head %" PRIu64 ", resting %" PRIu64
+           ", ring %02x\n",
+           answer.refusal, answer.place, b.carry, b.phase, b.kept, b.head, b.resting, ring[0]);
     return b;
 }
 
@@ -81,6 +86,55 @@ static void runs(void) {
     ran(uprzezar_run(none, ring, 0, more, 4), ring);
     ran(uprzezar_run(b, ring, 1, more, 1), ring);
     printf("the byte behind the ring: %02x\n", ring[1]);
+}
+
+/* What a book at rest answers: the refusals before 17 and those after it, then totals, how far back and the verdict's own refusals. */
+static void at_rest(uprzezar_book b, uint8_t *ring) {
+    static const uint64_t counts[] = {2, 6};
+    static const uint64_t windows[] = {6, 7};
+    static const uint64_t amounts[] = {14, 15};
+    uprzezar_book none = b;
+    size_t i;
+    none.phase = 2;
+    state(uprzezar_add(none, ring, 0, 6), ring);
+    state(uprzezar_add(b, ring, 0, 6), ring);
+    state(uprzezar_add(b, ring, 1, 6), ring);
+    state(uprzezar_add(b, ring, 1, 2), ring);
+    ran(uprzezar_run(b, ring, 0, counts, 2), ring);
+    for (i = 0; i <= 2; i++)
+        ran(uprzezar_run(b, ring, 1, counts, i), ring);
+    for (i = 0; i < 2; i++) {
+        uprzezar_figure f = uprzezar_total(b, ring, 1, windows[i]);
+        uprzezar_window w = uprzezar_far(b, ring, 1, amounts[i]);
+        printf("at rest, window %" PRIu64 ": refusal %u, figure %" PRIu64 "; how far back for %" PRIu64 ": refusal %u, window %" PRIu64 "\n",
+               windows[i], f.refusal, f.figure, amounts[i], w.refusal, w.window);
+    }
+    verdict(b, ring, 4, 9);
+    verdict(b, ring, 4, 19);
+    verdict(b, ring, 4, 0);
+    verdict(b, ring, 7, 9);
+}
+
+static void rests(void) {
+    static const uint64_t items[] = {3, 4, 5, 5, 0, 1, 5};
+    uint8_t ring[1] = {0xff};
+    uprzezar_book b = state(uprzezar_open(5, 6, 10, ring, 0), ring);
+    uprzezar_book none;
+    b = state(uprzezar_open(5, 6, 10, ring, 1), ring);
+    b = ran(uprzezar_run(b, ring, 1, items, sizeof items / sizeof *items), ring);
+    b = state(uprzezar_rest(b), ring);
+    b = state(uprzezar_rest(b), ring);
+    at_rest(b, ring);
+    b.resting = UINT64_MAX;
+    at_rest(b, ring);
+    none = b;
+    none.phase = 2;
+    state(uprzezar_rest(none), ring);
+    state(uprzezar_wake(none), ring);
+    b = state(uprzezar_wake(b), ring);
+    b = state(uprzezar_wake(b), ring);
+    verdict(b, ring, 4, 9);
+    state(uprzezar_add(b, ring, 1, 2), ring);
 }
 
 static void image(const uint8_t *bytes, size_t count) {
@@ -142,6 +196,7 @@ int main(void) {
     shapes();
     book();
     runs();
+    rests();
     pictures();
     two_bytes();
     comments();

@@ -48,8 +48,8 @@ fn filled(bound: u64, length: u64, tolerance: u64) -> (Book, Vec<u8>) {
 
 /// The plain record as the library takes it.
 pub fn crossed(book: Book) -> proved::Book {
-    let Book { bound, length, tolerance, carry, phase, kept, head } = book;
-    proved::Book { bound, length, tolerance, carry, phase, kept, head }
+    let Book { bound, length, tolerance, carry, phase, kept, head, resting } = book;
+    proved::Book { bound, length, tolerance, carry, phase, kept, head, resting }
 }
 
 /// The plain version with the record going in and coming back by value, as it crosses to C.

@@ -10,6 +10,7 @@ pub struct Book {
     pub phase: u64,
     pub kept: u64,
     pub head: u64,
+    pub resting: u64,
 }
 
 #[derive(Clone, Copy, Debug, Default, PartialEq, Eq)]
@@ -57,6 +58,7 @@ pub struct Answer {
 pub struct Ruled {
     pub refusal: u8,
     pub verdict: u8,
+    pub window: u64,
     pub figure: u64,
 }
 
@@ -88,6 +90,8 @@ extern "C" {
     fn uprzezar_open(bound: u64, length: u64, tolerance: u64, ring: *mut u8, bytes: usize) -> Updated;
     fn uprzezar_add(book: Book, ring: *mut u8, bytes: usize, item: u64) -> Updated;
     fn uprzezar_run(book: Book, ring: *mut u8, bytes: usize, counts: *const u64, how_many: usize) -> Ran;
+    fn uprzezar_rest(book: Book) -> Updated;
+    fn uprzezar_wake(book: Book) -> Updated;
     fn uprzezar_total(book: Book, ring: *const u8, bytes: usize, window: u64) -> Answer;
     fn uprzezar_far(book: Book, ring: *const u8, bytes: usize, amount: u64) -> Answer;
     fn uprzezar_verdict(book: Book, ring: *const u8, bytes: usize, window: u64, amount: u64) -> Ruled;
@@ -128,6 +132,14 @@ pub fn add(book: Book, ring: &mut [u8], item: u64) -> Updated {
 
 pub fn run(book: Book, ring: &mut [u8], counts: &[u64]) -> Ran {
     unsafe { uprzezar_run(book, ring.as_mut_ptr(), ring.len(), counts.as_ptr(), counts.len()) }
+}
+
+pub fn rest(book: Book) -> Updated {
+    unsafe { uprzezar_rest(book) }
+}
+
+pub fn wake(book: Book) -> Updated {
+    unsafe { uprzezar_wake(book) }
 }
 
 pub fn total(book: Book, ring: &[u8], window: u64) -> Answer {

@@ -5,14 +5,14 @@
 use bench::cases::crossed;
 use bench::chance::Chance;
 use bench::pictures::{pixel_bytes, put_pixel};
-use bench::plain::book::{Book, Shape, Verdict};
+use bench::plain::book::{Book, Notice, Shape};
 use bench::plain::{image, ring, score, Refusal};
 use bench::proved;
 
 /// How many calls of a kind came out with which refusal; 0 for none.
 struct Tally {
     name: &'static str,
-    counts: [u64; 17],
+    counts: [u64; 18],
 }
 
 fn alike<T: PartialEq + std::fmt::Debug>(name: &str, side: &str, other: T, proved: T, call: impl Fn() -> String) {
@@ -136,7 +136,16 @@ fn lent(chance: &mut Chance, bytes: usize) -> Vec<u8> {
     chance.bytes(bytes)
 }
 
-/// A record with its ring: from a good start in half of the cases, made up in the others.
+/// A resting mark: 0 for the most part.
+fn mark(chance: &mut Chance) -> u64 {
+    if !chance.one_in(6) {
+        return 0;
+    }
+    let anything = chance.next();
+    chance.pick(&[1, 1, 2, 255, 256, 1 << 32, 1 << 63, u64::MAX, anything])
+}
+
+/// A record with its ring: from a good start in half of the cases, made up in the others; with any mark in both.
 fn state(chance: &mut Chance) -> (Book, Vec<u8>) {
     let (bound, length, tolerance) = setting(chance);
     let mut ring = lent(chance, ring_bytes(bound, length, tolerance));
@@ -147,6 +156,7 @@ fn state(chance: &mut Chance) -> (Book, Vec<u8>) {
                 let item = if calm && !chance.one_in(8) { 0 } else { chance.below(bound + 1) };
                 book.add(&mut ring, item).expect("the item is within the bound");
             }
+            book.resting = mark(chance);
             return (book, ring);
         }
     }
@@ -155,7 +165,7 @@ fn state(chance: &mut Chance) -> (Book, Vec<u8>) {
     let phase = near(chance, kept.min(block - 1));
     let most = tolerance.wrapping_sub(1).wrapping_add(phase.wrapping_mul(bound));
     let head = near(chance, length.div_ceil(block).wrapping_sub(1));
-    (Book { bound, length, tolerance, carry: near(chance, most), phase, kept, head }, ring)
+    (Book { bound, length, tolerance, carry: near(chance, most), phase, kept, head, resting: mark(chance) }, ring)
 }
 
 fn shaped(result: Result<Shape, Refusal>) -> proved::Shaped {
@@ -175,11 +185,17 @@ fn opened(result: Result<Book, Refusal>) -> proved::Updated {
     }
 }
 
-fn ruled(result: Result<(Verdict, u64), Refusal>) -> proved::Ruled {
+fn ruled(result: Result<Notice, Refusal>) -> proved::Ruled {
     match result {
-        Ok((verdict, figure)) => proved::Ruled { refusal: 0, verdict: verdict as u8 + 1, figure },
-        Err(refusal) => proved::Ruled { refusal: refusal as u8, verdict: 0, figure: 0 },
+        Ok(Notice { window, verdict, figure }) => proved::Ruled { refusal: 0, verdict: verdict as u8 + 1, window, figure },
+        Err(refusal) => proved::Ruled { refusal: refusal as u8, verdict: 0, window: 0, figure: 0 },
     }
+}
+
+/// The record after a call that changes it, with the call's refusal.
+fn updated(mut book: Book, call: impl FnOnce(&mut Book) -> Result<(), Refusal>) -> proved::Updated {
+    let refusal = refusal_of(call(&mut book));
+    proved::Updated { refusal, book: crossed(book) }
 }
 
 fn shape_call(chance: &mut Chance, t: &mut Tally) {
@@ -206,9 +222,8 @@ fn book_calls(chance: &mut Chance, t: &mut [Tally]) {
     let record = crossed(book);
     let call = || format!("{book:?}, item {item}, window {window}, amount {amount}, ring {bytes:02x?}");
 
-    let (mut a, mut b, mut next) = (bytes.clone(), bytes.clone(), book);
-    let p = refusal_of(next.add(&mut a, item));
-    let p = proved::Updated { refusal: p, book: crossed(next) };
+    let (mut a, mut b) = (bytes.clone(), bytes.clone());
+    let p = updated(book, |next| next.add(&mut a, item));
     let q = proved::add(record, &mut b, item);
     same(&mut t[0], p.refusal, (p, a), (q, b), call);
     let (p, q) = (number(book.total(&bytes, window)), proved::total(record, &bytes, window));
@@ -217,6 +232,10 @@ fn book_calls(chance: &mut Chance, t: &mut [Tally]) {
     same(&mut t[2], p.refusal, p, q, call);
     let (p, q) = (ruled(book.verdict(&bytes, window, amount)), proved::verdict(record, &bytes, window, amount));
     same(&mut t[3], p.refusal, p, q, call);
+    let (p, q) = (updated(book, Book::rest), proved::rest(record));
+    same(&mut t[4], p.refusal, p, q, call);
+    let (p, q) = (updated(book, Book::wake), proved::wake(record));
+    same(&mut t[5], p.refusal, p, q, call);
 }
 
 /// Counts for a run, none of them at times: within the bound, but in a quarter of the runs one or two that are not.
@@ -237,12 +256,15 @@ fn counts_for(chance: &mut Chance, bound: u64) -> Vec<u64> {
 }
 
 /// A run by the library's own adds, one for each count: where one is refused, nothing is taken. Whether record and ring are refused, the
-/// total of no items tells.
+/// total of no items tells, and whether the book rests, its mark.
 fn one_by_one(book: proved::Book, ring: &mut Vec<u8>, counts: &[u64]) -> proved::Ran {
     let refused = |refusal, place| proved::Ran { refusal, place, book };
     let asked = proved::total(book, ring, 0);
     if asked.refusal != 0 {
         return refused(asked.refusal, 0);
+    }
+    if book.resting != 0 {
+        return refused(Refusal::BookRests as u8, 0);
     }
     let (mut next, mut bytes) = (book, ring.clone());
     for (place, &count) in (1..).zip(counts) {
@@ -423,18 +445,18 @@ fn image_calls(chance: &mut Chance, t: &mut [Tally]) {
 fn main() {
     let rounds: u64 = std::env::args().nth(1).map_or(1_000_000, |n| n.parse().expect("a number of rounds"));
     let names = [
-        "ring_clear", "ring_read", "ring_write", "ring_sum", "shape", "open", "add", "total", "far", "verdict", "run", "header",
-        "raster", "score",
+        "ring_clear", "ring_read", "ring_write", "ring_sum", "shape", "open", "add", "total", "far", "verdict", "rest", "wake", "run",
+        "header", "raster", "score",
     ];
-    let mut tallies = names.map(|name| Tally { name, counts: [0; 17] });
+    let mut tallies = names.map(|name| Tally { name, counts: [0; 18] });
     let mut chance = Chance::new(2026);
     for _ in 0..rounds {
         slots_call(&mut chance, &mut tallies[0..4]);
         shape_call(&mut chance, &mut tallies[4]);
         open_call(&mut chance, &mut tallies[5]);
-        book_calls(&mut chance, &mut tallies[6..10]);
-        run_call(&mut chance, &mut tallies[10]);
-        image_calls(&mut chance, &mut tallies[11..14]);
+        book_calls(&mut chance, &mut tallies[6..12]);
+        run_call(&mut chance, &mut tallies[12]);
+        image_calls(&mut chance, &mut tallies[13..16]);
     }
     one_bit_sums(&mut chance, &mut tallies[3]);
     let calls: u64 = tallies.iter().flat_map(|tally| tally.counts).sum();

@@ -3,7 +3,7 @@
 use super::ring;
 use super::Refusal;
 
-/// L, n, D, R, p, kept and head (docs/SCOPE.md, Record).
+/// L, n, D, R, p, kept and head (docs/SCOPE.md, Record), and the resting mark: 0, or the book rests.
 #[derive(Clone, Copy, Debug, Default, PartialEq, Eq)]
 pub struct Book {
     pub bound: u64,
@@ -13,6 +13,7 @@ pub struct Book {
     pub phase: u64,
     pub kept: u64,
     pub head: u64,
+    pub resting: u64,
 }
 
 /// Why a run was refused, and with `ItemTooLarge` the place, from 1, of the first count above the bound; with any other 0.
@@ -27,6 +28,15 @@ pub enum Verdict {
     Live,
     Frozen,
     Undecided,
+    Resting,
+}
+
+/// What the page is told: the window that was asked for, and the verdict with its figure.
+#[derive(Clone, Copy, Debug, PartialEq, Eq)]
+pub struct Notice {
+    pub window: u64,
+    pub verdict: Verdict,
+    pub figure: u64,
 }
 
 /// What follows from L, n and D: c, s, z and b (docs/SCOPE.md, Numbers), and B by `bytes`.
@@ -84,7 +94,8 @@ impl Book {
         Ok(Book { bound, length, tolerance, ..Book::default() })
     }
 
-    fn check(&self, ring: &[u8]) -> Result<Shape, Refusal> {
+    /// Whether the record alone can be a book's; the mark has no part in that.
+    fn check_record(&self) -> Result<Shape, Refusal> {
         check_numbers(self.bound, self.length, self.tolerance).map_err(|_| Refusal::NoBook)?;
         let shape = Shape::new(self.bound, self.length, self.tolerance);
         let sound = self.kept <= self.length
@@ -95,15 +106,29 @@ impl Book {
         if !sound {
             return Err(Refusal::NoBook);
         }
+        Ok(shape)
+    }
+
+    fn check(&self, ring: &[u8]) -> Result<Shape, Refusal> {
+        let shape = self.check_record()?;
         if ring.len() < shape.bytes() {
             return Err(Refusal::RingTooShort);
         }
         Ok(shape)
     }
 
+    /// Whether items are taken, one or many.
+    fn check_awake(&self, ring: &[u8]) -> Result<Shape, Refusal> {
+        let shape = self.check(ring)?;
+        if self.resting != 0 {
+            return Err(Refusal::BookRests);
+        }
+        Ok(shape)
+    }
+
     #[inline(never)]
     pub fn add(&mut self, ring: &mut [u8], item: u64) -> Result<(), Refusal> {
-        let shape = self.check(ring)?;
+        let shape = self.check_awake(ring)?;
         if item > self.bound {
             return Err(Refusal::ItemTooLarge);
         }
@@ -114,7 +139,7 @@ impl Book {
     /// All counts, one after the other, or none of them where one is above the bound.
     #[inline(never)]
     pub fn run(&mut self, ring: &mut [u8], counts: &[u64]) -> Result<(), RunRefused> {
-        let shape = self.check(ring).map_err(|refusal| RunRefused { refusal, place: 0 })?;
+        let shape = self.check_awake(ring).map_err(|refusal| RunRefused { refusal, place: 0 })?;
         if let Some(before) = counts.iter().position(|&count| count > self.bound) {
             return Err(RunRefused { refusal: Refusal::ItemTooLarge, place: before as u64 + 1 });
         }
@@ -137,6 +162,18 @@ impl Book {
             self.phase = 0;
             self.head = if self.head + 1 == shape.slots as u64 { 0 } else { self.head + 1 };
         }
+    }
+
+    /// Sets the mark: from then on nothing is taken.
+    #[inline(never)]
+    pub fn rest(&mut self) -> Result<(), Refusal> {
+        self.check_record().map(|_| self.resting = 1)
+    }
+
+    /// Clears the mark.
+    #[inline(never)]
+    pub fn wake(&mut self) -> Result<(), Refusal> {
+        self.check_record().map(|_| self.resting = 0)
     }
 
     fn figure(&self, sum: u64, e: u64, g: u64) -> u64 {
@@ -196,7 +233,7 @@ impl Book {
     }
 
     #[inline(never)]
-    pub fn verdict(&self, ring: &[u8], window: u64, amount: u64) -> Result<(Verdict, u64), Refusal> {
+    pub fn verdict(&self, ring: &[u8], window: u64, amount: u64) -> Result<Notice, Refusal> {
         let shape = self.check(ring)?;
         if amount == 0 || window == 0 {
             return Err(Refusal::ZeroAsked);
@@ -205,13 +242,15 @@ impl Book {
             return Err(Refusal::WindowTooLong);
         }
         let figure = self.total_within(&shape, ring, window);
-        let verdict = if figure >= amount {
+        let verdict = if self.resting != 0 {
+            Verdict::Resting
+        } else if figure >= amount {
             Verdict::Live
         } else if amount - figure > self.tolerance - 1 {
             Verdict::Frozen
         } else {
             Verdict::Undecided
         };
-        Ok((verdict, figure))
+        Ok(Notice { window, verdict, figure })
     }
 }

@@ -26,4 +26,5 @@ pub enum Refusal {
     EndsTooEarly = 14,
     PixelTooLarge = 15,
     ImagesDiffer = 16,
+    BookRests = 17,
 }

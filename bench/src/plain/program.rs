@@ -39,10 +39,11 @@ impl Watch {
         self.last.clear();
         self.last.extend_from_slice(image);
         let total = self.book.total(&self.ring, self.book.kept)?;
-        let word = match self.book.verdict(&self.ring, WINDOW, AMOUNT) {
-            Ok((Verdict::Live, _)) => "live",
-            Ok((Verdict::Frozen, _)) => "frozen",
-            Ok((Verdict::Undecided, _)) => "undecided",
+        let word = match self.book.verdict(&self.ring, WINDOW, AMOUNT).map(|notice| notice.verdict) {
+            Ok(Verdict::Live) => "live",
+            Ok(Verdict::Frozen) => "frozen",
+            Ok(Verdict::Undecided) => "undecided",
+            Ok(Verdict::Resting) => "resting",
             Err(_) => "early",
         };
         let (frame, kept) = (self.frames, self.book.kept);

@@ -15,16 +15,18 @@ use Rattle.book.specs.declared.Ran.{Ran}
 use Rattle.book.specs.declared.Figure.{Figure}
 use Rattle.book.specs.declared.Window.{Window}
 use Rattle.book.specs.declared.shape.Shaped.{Shaped}
-use Rattle.book.specs.declared.verdicts.Verdict.{Verdict}
+use Rattle.book.specs.declared.verdicts.Notice.{Notice}
 use Rattle.book.specs.declared.verdicts.Ruling.{Ruling}
 use Rattle.book.specs.declared.verdicts.Ruling.the-variants.{Told, Refused}
 use Rattle.book.specs.Verdict.{refusalIn}
 use Rattle.book.specs.Shape.{shapeCall}
-use Rattle.book.specs.Calls.{openCall, addCall, runCall, totalCall, howFarCall, verdictCall}
+use Rattle.book.specs.Calls.{openCall, addCall, runCall, markCall, restCall, wakeCall, totalCall, howFarCall, verdictCall}
 use Rattle.book.proofs.shape.derive.Reads as derive-reads
 use Rattle.book.proofs.open.Reads as open-reads
 use Rattle.book.proofs.add.Reads as add-reads
 use Rattle.book.proofs.run.Reads as run-reads
+use Rattle.book.proofs.rest.Reads as rest-reads
+use Rattle.book.proofs.wake.Reads as wake-reads
 use Rattle.book.proofs.total.Reads as total-reads
 use Rattle.book.proofs.how_far_back.Reads as far-reads
 use Rattle.book.proofs.verdict.Reads as verdict-reads
@@ -34,6 +36,15 @@ module _ (κs : Lfts 0) where
   pub derive-promised : Promised (derive-reads.Post κs) (λ r. r) (λ a e. tt) (λ a. shapeCall (a .0) (a .1 .0) (a .1 .1 .0)) (λ (r : Shaped). r .refusal)
   unfolding shapeCall
   derive-promised = promised _ _ _ _ (λ a r e p. (p, refl)) _ (λ a. tells tt refl (λ number. refl))
+
+  -- resting and waking: the record alone
+  pub rest-promised : Promised (rest-reads.Post κs) (λ r. r) (λ a e. tt) (λ a. restCall (a .0)) (λ (r : Updated). r .refusal)
+  unfolding markCall
+  rest-promised = promised _ _ _ _ (λ a r e p. (p, refl)) _ (λ a. tells tt refl (λ number. refl))
+
+  pub wake-promised : Promised (wake-reads.Post κs) (λ r. r) (λ a e. tt) (λ a. wakeCall (a .0)) (λ (r : Updated). r .refusal)
+  unfolding markCall
+  wake-promised = promised _ _ _ _ (λ a r e p. (p, refl)) _ (λ a. tells tt refl (λ number. refl))
 
 -- an opening tells its refusal
 pub open-tells : (bound n tolerance : ℕ) (ring : List ℕ) → Tells (λ (r : Updated). r .refusal) (openCall bound n tolerance ring)
@@ -46,7 +57,7 @@ module _ (book : Book) (ring : List ℕ) (window amount : ℕ) where
   unfolding verdictCall
   verdict-leaves = asks-leaves (verdictCall book ring window amount) refl
 
-  pub verdict-tells : {numberIn : Ruling → ℕ} → ((verdict : Verdict) → numberIn (Told verdict) ≡ 0)
+  pub verdict-tells : {numberIn : Ruling → ℕ} → ((notice : Notice) → numberIn (Told notice) ≡ 0)
       → ((number : ℕ) → numberIn (Refused number) ≡ number) → Tells numberIn (verdictCall book ring window amount)
   unfolding verdictCall
   verdict-tells told refused = tells tt (told _) refused
@@ -75,7 +86,7 @@ module _ (κs : Lfts 1) where
   pub verdict-promised : Promised (verdict-reads.Post κs) (λ r. r) (λ a e. now (a .1 .0))
       (λ a. verdictCall (a .0) (now (a .1 .0)) (a .1 .1 .0) (a .1 .1 .1 .0)) refusalIn
   verdict-promised =
-      promised _ _ _ _ (λ a r e p. (p, verdict-leaves _ _ _ _)) _ (λ a. verdict-tells _ _ _ _ (λ verdict. refl) (λ number. refl))
+      promised _ _ _ _ (λ a r e p. (p, verdict-leaves _ _ _ _)) _ (λ a. verdict-tells _ _ _ _ (λ notice. refl) (λ number. refl))
 
 -- a run of counts, which are lent beside the ring
 pub run-promised : (κs : Lfts 2) → Promised (run-reads.Post κs) (λ r. r) (λ a e. now (e .1 .0))

@@ -1,4 +1,4 @@
--- A call with a book, as the code judges it: the book and its ring first, then the call's own faults.
+-- A call with a book, as the code judges it: the book and its ring first, and what is judged with them, then the call's own faults.
 -- Assumes nothing.
 use Prim.Native.Nat.{ℕ}
 use mathlib.Core.List.{List, _++_}
@@ -11,13 +11,18 @@ use Rattle.refusals.proofs.Calls.{result-taken, left-taken, result-refused, lef
 use Rattle.book.specs.declared.Book.{Book}
 use Rattle.book.specs.declared.shape.Shaped.{Shaped}
 use Rattle.book.specs.Calls.{bookFaults}
-use Rattle.book.specs.Judged.{Ready, Judged}
+use Rattle.book.specs.Judged.{Ready, JudgedWith}
+
+-- where a refusal was found, that is all that was judged
+pub judged-refused : (book : Book) (lent : ℕ) (behind : List Fault) (judged : Shaped) → judged .refusal ≡ firstOf (bookFaults book lent ++ behind)
+    → (judged .refusal ≡ 0 → ⊥) → JudgedWith book lent behind judged
+judged-refused book lent behind judged told ne = record { refusal-is = told; ready = λ e. absurd (ne e) }
 
 -- the call comes back with this number
 abbrev pub Refuses : {Result : Type 0} → Call Result (List ℕ) → ℕ → Type 0
 Refuses call number = (call .back number ≡ resultOf call) × (call .lent ≡ leftOf call)
 
--- what the judging settles of a call whose own faults come after the book's
+-- what the judging settles of a call whose own faults come after those that were judged
 pub record JudgedFirst {Result : Type 0} (book : Book) (ring : List ℕ) (judged : Shaped) (own : List Fault) (call : Call Result (List ℕ)) : Type 0 where
   -- the refusal that was found is the call's
   pub refused : (judged .refusal ≡ 0 → ⊥) → Refuses call (judged .refusal)
@@ -27,10 +32,10 @@ pub record JudgedFirst {Result : Type 0} (book : Book) (ring : List ℕ) (judged
   pub taken : judged .refusal ≡ 0 → 0 ≡ firstOf own → (call .given ≡ resultOf call) × (call .left ≡ leftOf call)
 
 -- the judging was handed m as the ring's length
-pub judged-first : {Result : Type 0} (book : Book) (ring : List ℕ) (own : List Fault) (call : Call Result (List ℕ))
-    → call .faults ≡ bookFaults book (length ring) ++ own
-    → {m : ℕ} {judged : Shaped} → m ≡ length ring → Judged book m judged → JudgedFirst book ring judged own call
-judged-first book ring own call faults-are {m} {judged} m-is told =
+pub judged-first : {Result : Type 0} (book : Book) (ring : List ℕ) (behind own : List Fault) (call : Call Result (List ℕ))
+    → call .faults ≡ bookFaults book (length ring) ++ behind ++ own
+    → {m : ℕ} {judged : Shaped} → m ≡ length ring → JudgedWith book m behind judged → JudgedFirst book ring judged own call
+judged-first book ring behind own call faults-are {m} {judged} m-is told =
     record {
       refused = λ ne. (result-refused call (first ne) ne, left-refused call (first ne) ne);
       ready = λ none. (rw m-is at (told .ready none));
@@ -38,11 +43,14 @@ judged-first book ring own call faults-are {m} {judged} m-is told =
       taken = λ none e. (result-taken call (next none e) refl, left-taken call (next none e) refl);
     }
   where
-    refusal-is : judged .refusal ≡ firstOf (bookFaults book (length ring))
-    refusal-is = told .refusal-is ∙ ap (λ (n : ℕ). firstOf (bookFaults book n)) m-is
+    asked : List Fault
+    asked = bookFaults book (length ring) ++ behind
+
+    refusal-is : judged .refusal ≡ firstOf asked
+    refusal-is = told .refusal-is ∙ ap (λ (n : ℕ). firstOf (bookFaults book n ++ behind)) m-is
 
     first : (judged .refusal ≡ 0 → ⊥) → judged .refusal ≡ refusalOf call
-    first ne = first-stops (bookFaults book (length ring)) own (judged .refusal) refusal-is ne ∙ sym (ap firstOf faults-are)
+    first ne = first-stops asked own (judged .refusal) refusal-is ne ∙ sym (ap firstOf faults-are)
 
     next : judged .refusal ≡ 0 → {n : ℕ} → n ≡ firstOf own → n ≡ refusalOf call
-    next none e = e ∙ sym (ap firstOf faults-are ∙ first-goes-on (bookFaults book (length ring)) own (sym refusal-is ∙ none))
+    next none e = e ∙ sym (ap firstOf faults-are ∙ first-goes-on asked own (sym refusal-is ∙ none))

@@ -2,6 +2,7 @@ pub mod RoundedUp
 pub mod DigitsByLeadingZeros
 pub mod NumbersInRange
 pub mod ShapeInTwoCases
+pub mod AwakeOrAtRest
 pub mod WhenTaken
 pub mod JudgedFirst
 pub mod LookingAtAll
@@ -27,5 +28,7 @@ pub mod HowFarNames
 pub mod VerdictRule
 pub mod BoxSetting
 pub mod ComesBack
+pub mod NotByTheMark
+pub mod DarkHours
 pub mod Demand1
 pub mod Promises

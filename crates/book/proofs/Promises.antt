@@ -3,25 +3,35 @@
 
 -- CALLS. Opening is taken exactly where L, n and D are in their ranges and the ring has room; what it then gives and leaves
 pub use Rattle.book.proofs.WhenTaken.{open-known, open-taken, open-gives}
--- an item exactly where the record is a book with its ring and the item is at most L; what it then gives and leaves
+-- an item exactly where the record is a book with its ring, is awake, and the item is at most L; what it then gives and leaves
 pub use Rattle.book.proofs.WhenTaken.{add-known, add-taken, add-gives}
--- a run exactly where the record is a book with its ring and no count is above L; what it then gives and leaves
+-- a run exactly where the record is a book with its ring, is awake, and no count is above L; what it then gives and leaves
 pub use Rattle.book.proofs.WhenTaken.{run-known, run-taken, run-gives}
+-- resting and waking exactly where the record is a book; what it then gives; otherwise 8
+pub use Rattle.book.proofs.WhenTaken.{mark-known, mark-taken, mark-gives}
+pub use Rattle.book.proofs.DarkHours.{mark-done, mark-8}
 -- a total exactly where the window is at most kept; what it then gives
 pub use Rattle.book.proofs.WhenTaken.{total-known, total-taken, total-gives}
 -- a verdict exactly where amount and window are not 0 and the window is at most kept; what it then gives; with a longer window it is 5
 pub use Rattle.book.proofs.WhenTaken.{verdict-known, verdict-taken, verdict-gives, verdict-long}
 -- a refused item or run hands the record back as it came, and a call that only asks leaves the ring
 pub use Rattle.book.proofs.ComesBack.{add-back, run-back, total-asks, far-asks, verdict-asks}
--- a run of a book with its ring, with a count above L, is refused with 7; with 7 comes the place of the first such count, otherwise the
--- place is 0; an empty run of a book with its ring is not refused and changes nothing
+-- a run of a book with its ring that is awake, with a count above L, is refused with 7; with 7 comes the place of the first such count,
+-- otherwise the place is 0; an empty run of such a book is not refused and changes nothing
 pub use Rattle.book.proofs.RunRefused.{run-above, run-7, run-place-0, empty-run}
 -- that place says where the first count above L stands; the look finds none exactly where no count is above L
 pub use Rattle.book.proofs.LookingAtAll.{place-first, none-above, all-below}
+-- DARK HOURS. Opening clears the mark; of two marks the last one counts, so that resting or waking twice is the same as once, and a record
+-- whose mark is 0 comes back when it has rested and is woken; adding and runs leave the mark
+pub use Rattle.book.proofs.DarkHours.{opening-awake, last-mark, mark-it-has, rest-twice, wake-twice, rest-then-wake, add-leaves-mark, run-leaves-mark}
+-- at rest every item and every run is refused with 17, and the verdict is resting with its figure; its own refusals, totals and how far back do
+-- not look at the mark
+pub use Rattle.book.proofs.DarkHours.{add-at-rest, run-at-rest, verdict-at-rest, verdict-awake, told-in-numbers}
+pub use Rattle.book.proofs.NotByTheMark.{total-unmarked, far-unmarked, verdict-refusal-unmarked}
 -- a window of 0 answers 0
 pub use Rattle.book.proofs.Window0.{window-0, total-of-none}
 -- demand 1 and uniqueness of every public call
-pub use Rattle.book.proofs.Demand1.{derive-promised, open-promised, add-promised, run-promised, total-promised, far-promised, verdict-promised}
+pub use Rattle.book.proofs.Demand1.{derive-promised, open-promised, add-promised, run-promised, rest-promised, wake-promised, total-promised, far-promised, verdict-promised}
 -- a verdict leaves the ring, and tells its number whatever reads it off the answer
 pub use Rattle.book.proofs.Demand1.{open-tells, verdict-leaves, verdict-tells}
 -- HOW FAR BACK. There is a smallest window whose figure reaches v, or none; it is named, or 9 is given; there is one at the most
@@ -40,8 +50,8 @@ pub use Rattle.book.proofs.AddingInTwoCases.{adding-cases}
 pub use Rattle.book.proofs.StepsInRange.{quotient-le, quotient-in}
 -- opening makes a book, and adding keeps it one; what a closed block leaves of the carry is its remainder by D
 pub use Rattle.book.proofs.StaysABook.{opened-sound, open-sound, closed-sound, closed-carry}
--- it leaves L, n and D, and the record passes refusals 8 and 4 with the ring again
-pub use Rattle.book.proofs.StaysABook.{SameNumbers, added-same, added-usable}
+-- it leaves L, n, D and the mark, and the record passes refusals 8 and 4 with the ring again; and so does one with another mark
+pub use Rattle.book.proofs.StaysABook.{SameNumbers, added-same, added-mark, added-usable, marked-sound, marked-usable}
 -- A RUN OF COUNTS that is taken is adding them one by one …
 pub use Rattle.book.proofs.RunIsAdding.{run-is-adding}
 -- … which comes to one record and one ring alone
@@ -52,7 +62,7 @@ pub use Rattle.book.proofs.RunIsAdding.{adding-is-run}
 pub use Rattle.book.proofs.NextSlot.{before-after, slot-after-mod}
 -- THE FIGURE by the formula of SCOPE, Total, within the open block and beyond it
 pub use Rattle.book.proofs.FigureInTwoCases.{figure-in-open, figure-in-slots}
--- THE VERDICT by its rule
-pub use Rattle.book.proofs.VerdictRule.{live-by, frozen-by}
+-- THE VERDICT by its rule: resting is told only of a book that rests, any other verdict goes by the figure, and each carries it
+pub use Rattle.book.proofs.VerdictRule.{live-by, frozen-by, resting-by, by-figure, carries-figure}
 -- of two numbers one is not above the other
 pub use Rattle.book.proofs.RoundedUp.{le-or-lt}

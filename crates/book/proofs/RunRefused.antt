@@ -1,10 +1,10 @@
 -- A run that is refused: with 7 comes the place of the first count above L, with any other number no place (promise C-11.2). And an empty
--- run is not refused and changes nothing (promise C-11.3).
+-- run of a book that is awake is not refused and changes nothing (promise C-11.3).
 -- Assumes nothing.
 use Prim.Native.Nat.{ℕ, zero, suc}
 use native.Mathlib.Omega.{arith}
 use mathlib.Core.Bool.{Bool, true, false}
-use mathlib.Core.List.{List, [], _∷_}
+use mathlib.Core.List.{List, [], _∷_, _++_}
 use mathlib.Core.Path.{_≡_, refl, sym, _∙_}
 use borrow.Author.Tests.{ne-eqb}
 use lib.ListN.{length}
@@ -17,27 +17,33 @@ use Rattle.book.specs.declared.Book.{Book}
 use Rattle.book.specs.declared.Ran.{Ran}
 use Rattle.book.specs.RunOfCounts.{anyAbove, placeAbove, placeWith, FirstAbove, addedAll, addedAllRing}
 use Rattle.book.specs.Sound.{Usable}
-use Rattle.book.specs.Calls.{bookFaults, countsFault, runCall}
+use Rattle.book.specs.Resting.{awake}
+use Rattle.book.specs.Calls.{bookFaults, restFault, countsFault, runCall}
 use Rattle.book.proofs.LookingAtAll.{above-empty, place-first}
+use Rattle.book.proofs.AwakeOrAtRest.{awake-passes}
 use Rattle.book.proofs.WhenTaken.{usable-passes, run-taken, run-gives}
 
 -- with a number that is not 7 comes no place
 no-place : (bound : ℕ) (counts : List ℕ) (number : ℕ) → (number ≡ itemTooLarge → ⊥) → placeWith bound counts number ≡ 0
 no-place bound counts number other = rw (ne-eqb number itemTooLarge other)
 
--- what every call asks of the book and its ring gives 8 or 4, and never 7
-book-never-7 : (book : Book) (lent : ℕ) → firstOf (bookFaults book lent) ≡ itemTooLarge → ⊥
-book-never-7 book lent = first-avoids 6 (bookFaults book lent) tt
+-- what a run asks of the book and its ring before it looks at the counts …
+abbrev askedBefore : Book → ℕ → List Fault
+askedBefore book lent = bookFaults book lent ++ restFault book ∷ []
+
+-- … gives 8, 4 or 17, and never 7
+book-never-7 : (book : Book) (lent : ℕ) → firstOf (askedBefore book lent) ≡ itemTooLarge → ⊥
+book-never-7 book lent = first-avoids 6 (askedBefore book lent) tt
 
 -- so no place comes with what the judging of the book found
-pub judged-no-place : (book : Book) (lent : ℕ) (counts : List ℕ) {number : ℕ} → number ≡ firstOf (bookFaults book lent)
+pub judged-no-place : (book : Book) (lent : ℕ) (counts : List ℕ) {number : ℕ} → number ≡ firstOf (askedBefore book lent)
     → placeWith (book .bound) counts number ≡ 0
 judged-no-place book lent counts {number} found =
     no-place (book .bound) counts number (λ seven. book-never-7 book lent (sym found ∙ seven))
 
 module _ (book : Book) (ring counts : List ℕ) where
   abbrev of-book : List Fault
-  of-book = bookFaults book (length ring)
+  of-book = askedBefore book (length ring)
 
   abbrev own : List Fault
   own = countsFault book counts ∷ []
@@ -55,10 +61,13 @@ module _ (book : Book) (ring counts : List ℕ) where
       judged zero e = looked (anyAbove (book .bound) counts) (sym (first-goes-on of-book own e) ∙ seven)
       judged (suc n) e = absurd (book-never-7 book (length ring) (e ∙ first-stops of-book own (suc n) (sym e) (λ z. omega (arith, z)) ∙ seven))
 
-  -- … and wherever one is, if the record is a book with its ring
-  pub run-above : Usable book (length ring) → anyAbove (book .bound) counts ≡ true → refusalOf (runCall book ring counts) ≡ itemTooLarge
+  -- … and wherever one is, if the record is a book with its ring and is awake
+  pub run-above : Usable book (length ring) → book .resting ≡ awake → anyAbove (book .bound) counts ≡ true
+      → refusalOf (runCall book ring counts) ≡ itemTooLarge
   unfolding runCall
-  run-above u above = first-goes-on of-book own (none-refuses of-book (usable-passes book (length ring) [] u tt)) ∙ rw above
+  run-above u up above =
+      first-goes-on of-book own (none-refuses of-book (usable-passes book (length ring) (restFault book ∷ []) u (awake-passes book up, tt)))
+      ∙ rw above
 
   -- with it comes the place of the first one; the record comes back and the ring is left as they came
   pub run-7 : refusalOf (runCall book ring counts) ≡ itemTooLarge
@@ -80,8 +89,8 @@ module _ (book : Book) (ring counts : List ℕ) where
       result-cases (λ (r : Ran). r .place ≡ 0) (runCall book ring counts) (λ e. refl)
       (λ number e. no-place (book .bound) counts (suc number) (λ seven. other (e ∙ seven)))
 
--- AN EMPTY RUN gives the record and leaves the ring as they came
-pub empty-run : (book : Book) (ring : List ℕ) → Usable book (length ring)
+-- AN EMPTY RUN of a book that is awake gives the record and leaves the ring as they came
+pub empty-run : (book : Book) (ring : List ℕ) → Usable book (length ring) → book .resting ≡ awake
     → (resultOf (runCall book ring []) ≡ record { refusal = 0; place = 0; book = book }) × (leftOf (runCall book ring []) ≡ ring)
 unfolding addedAll addedAllRing
-empty-run book ring u = run-gives book ring [] (run-taken book ring [] u (above-empty (book .bound)))
+empty-run book ring u up = run-gives book ring [] (run-taken book ring [] u (above-empty (book .bound)) up)

@@ -1,4 +1,5 @@
--- Opening makes a book, and adding keeps it one, with its numbers and its ring: the record that comes back passes refusals 8 and 4 again.
+-- Opening makes a book, and adding keeps it one, with its numbers, its mark and its ring: the record that comes back passes refusals 8 and 4
+-- again. So does one with another mark.
 -- Assumes nothing.
 use Prim.Native.Nat.{ℕ, _+_, _-_, _*_, _%_, _^_, _≤_, _<_}
 use native.Mathlib.Nat.{div-add-mod, mod-lt, mul-comm}
@@ -8,6 +9,7 @@ use mathlib.Core.Path.{_≡_, refl}
 use lib.ListN.{length}
 use Rattle.ring.proofs.Promises.{length-written}
 use Rattle.book.specs.declared.Book.{Book}
+use Rattle.book.specs.Resting.{marked}
 use Rattle.book.specs.Record.{blockOf, slotsOf, widthOf, opened}
 use Rattle.book.specs.Sound.{Ranges, Sound, Usable}
 use Rattle.book.specs.Adding.{carryWith, quotientOf, addedOpen, addedClosed, added, addedRing}
@@ -70,6 +72,25 @@ added-same book item =
     adding-cases (λ b r. SameNumbers book b) book [] item
     (λ closes. record { bound-same = refl; length-same = refl; tolerance-same = refl })
     (λ more. record { bound-same = refl; length-same = refl; tolerance-same = refl })
+
+-- adding leaves the mark too
+pub added-mark : (book : Book) (item : ℕ) → added book item .resting ≡ book .resting
+added-mark book item = adding-cases (λ b r. b .resting ≡ book .resting) book [] item (λ closes. refl) (λ more. refl)
+
+-- with another mark a book is a book
+pub marked-sound : (book : Book) (mark : ℕ) → Sound book → Sound (marked book mark)
+marked-sound book mark sound =
+    record {
+      ranges = sound .ranges;
+      kept-high = sound .kept-high;
+      kept-low = sound .kept-low;
+      phase-high = sound .phase-high;
+      head-high = sound .head-high;
+      carry-high = sound .carry-high;
+    }
+
+pub marked-usable : (book : Book) (lent mark : ℕ) → Usable book lent → Usable (marked book mark) lent
+marked-usable book lent mark usable = record { sound = marked-sound book mark (usable .sound); room = usable .room }
 
 -- after an item that is taken the record is a book still, and the ring, which is as long as it was, is lent whole
 pub added-usable : (book : Book) (ring : List ℕ) (item : ℕ) → Usable book (length ring) → item ≤ book .bound

@@ -1,4 +1,5 @@
--- When a call of the book is taken: exactly where the record is a book with its ring and the call's own conditions hold.
+-- When a call of the book is taken: exactly where the record is a book, its ring, if the call has one, is lent whole, and the call's own
+-- conditions hold; and what it then gives and leaves.
 -- Assumes nothing.
 use Prim.Native.Nat.{ℕ, _+_, _-_, _*_, _≤_, _<_}
 use native.Mathlib.Omega.{arith}
@@ -6,11 +7,11 @@ use mathlib.Core.Bool.{Bool, true, false}
 use mathlib.Core.List.{List, [], _∷_, _++_}
 use mathlib.Core.Path.{_≡_, refl, sym, ap, _∙_}
 use borrow.Author.Tests.{le-ltb, lt-ltb, lt-leb, ltb-false, leb-false, eqb-false, ne-eqb}
-use lib.Dec.{T, ltb, eqb}
-use lib.ListN.{length}
-use Rattle.refusals.specs.Numbers.{badBound, badLength, badTolerance, noBook, ringTooShort, windowTooLong, itemTooLarge}
+use lib.Dec.{T, eqb}
+use lib.ListN.{length, drop}
+use Rattle.refusals.specs.Numbers.{badBound, badLength, badTolerance, noBook, ringTooShort, windowTooLong, bookRests}
 use Rattle.refusals.specs.First.{Fault, _gives_, firstOf, outside}
-use Rattle.refusals.specs.Call.{refusalOf, resultOf, leftOf}
+use Rattle.refusals.specs.Call.{Call, refusalOf, resultOf, leftOf}
 use Rattle.refusals.specs.Demand1.{NoneHolds}
 use Rattle.refusals.proofs.Laws.{first-stops, first-goes-on, in-range, not-outside}
 use Rattle.refusals.proofs.Calls.{nothing-holds, none-refuses, noneIs0, written-out, tells, result-number, result-taken, result-refused, left-taken}
@@ -25,10 +26,12 @@ use Rattle.book.specs.Record.{blockOf, slotsOf, bytesOf, opened}
 use Rattle.book.specs.Adding.{added, addedRing}
 use Rattle.book.specs.RunOfCounts.{anyAbove, addedAll, addedAllRing}
 use Rattle.book.specs.Figure.{figure}
-use Rattle.book.specs.Verdict.{verdictOf}
-use Rattle.book.specs.Sound.{Ranges, Usable}
+use Rattle.book.specs.Verdict.{verdictNow}
+use Rattle.book.specs.Resting.{awake, marked}
+use Rattle.book.specs.Sound.{Ranges, Sound, Usable}
 use Rattle.book.specs.HowFar.{howFarBack}
-use Rattle.book.specs.Calls.{rangeFaults, stateFaults, roomFault, bookFaults, itemFault, countsFault, windowFault, zeroFault, reachFault, openCall, addCall, runCall, totalCall, howFarCall, verdictCall}
+use Rattle.book.specs.Calls.{rangeFaults, stateFaults, recordFaults, roomFault, bookFaults, restFault, itemFault, countsFault, windowFault, zeroFault, reachFault, openCall, addCall, runCall, markCall, totalCall, howFarCall, verdictCall}
+use Rattle.book.proofs.AwakeOrAtRest.{awake-known, awake-passes, rest-holds}
 
 -- L, n and D are in their ranges exactly where none of their faults holds
 pub ranges-known : (bound n tolerance : ℕ) (later : List Fault) → NoneHolds (numberFaults bound n tolerance ++ later)
@@ -75,29 +78,25 @@ module _ (bound n tolerance : ℕ) {shaped : Shaped} (told : shaped ≡ resultOf
         ap (λ (s : Shaped). s .shape) (told ∙ sym (result-taken (shapeCall bound n tolerance) (sym passed) refl)),
       )
 
--- a record is a book, and its ring is lent whole, exactly where none of the faults holds that every call asks first
-pub usable-known : (book : Book) (lent : ℕ) (own : List Fault) → NoneHolds (bookFaults book lent ++ own) → Usable book lent × NoneHolds own
-usable-known book lent own h =
-    let r = ranges-known (book .bound) (book .length) (book .tolerance) (stateFaults book ++ roomFault (bytesOf book) lent ∷ own) h in
+-- a record is a book exactly where none of the faults holds that give 8 …
+pub sound-known : (book : Book) (later : List Fault) → NoneHolds (recordFaults book ++ later) → Sound book × NoneHolds later
+sound-known book later h =
+    let r = ranges-known (book .bound) (book .length) (book .tolerance) (stateFaults book ++ later) h in
     let s = r .1 in (
       record {
-        sound = record {
-          ranges = r .0;
-          kept-high = ltb-false (book .length) (book .kept) (s .0);
-          kept-low = ltb-false (book .kept) (book .phase) (s .1 .0);
-          phase-high = leb-false (blockOf book) (book .phase) (s .1 .1 .0);
-          head-high = leb-false (slotsOf book) (book .head) (s .1 .1 .1 .0);
-          carry-high = ltb-false (book .tolerance - 1 + book .phase * book .bound) (book .carry) (s .1 .1 .1 .1 .0);
-        };
-        room = ltb-false lent (bytesOf book) (s .1 .1 .1 .1 .1 .0);
+        ranges = r .0;
+        kept-high = ltb-false (book .length) (book .kept) (s .0);
+        kept-low = ltb-false (book .kept) (book .phase) (s .1 .0);
+        phase-high = leb-false (blockOf book) (book .phase) (s .1 .1 .0);
+        head-high = leb-false (slotsOf book) (book .head) (s .1 .1 .1 .0);
+        carry-high = ltb-false (book .tolerance - 1 + book .phase * book .bound) (book .carry) (s .1 .1 .1 .1 .0);
       },
-      s .1 .1 .1 .1 .1 .1,
+      s .1 .1 .1 .1 .1,
     )
 
-pub usable-passes : (book : Book) (lent : ℕ) (own : List Fault) → Usable book lent → NoneHolds own → NoneHolds (bookFaults book lent ++ own)
-usable-passes book lent own u h =
-    let s = u .sound in
-    ranges-pass (book .bound) (book .length) (book .tolerance) (stateFaults book ++ roomFault (bytesOf book) lent ∷ own) (s .ranges) (
+pub sound-passes : (book : Book) (later : List Fault) → Sound book → NoneHolds later → NoneHolds (recordFaults book ++ later)
+sound-passes book later s h =
+    ranges-pass (book .bound) (book .length) (book .tolerance) (stateFaults book ++ later) (s .ranges) (
       le-ltb (book .length) (book .kept) (s .kept-high),
       (
         le-ltb (book .kept) (book .phase) (s .kept-low),
@@ -105,22 +104,29 @@ usable-passes book lent own u h =
           lt-leb (blockOf book) (book .phase) (s .phase-high),
           (
             lt-leb (slotsOf book) (book .head) (s .head-high),
-            (
-              le-ltb (book .tolerance - 1 + book .phase * book .bound) (book .carry) (s .carry-high),
-              (le-ltb lent (bytesOf book) (u .room), h),
-            ),
+            (le-ltb (book .tolerance - 1 + book .phase * book .bound) (book .carry) (s .carry-high), h),
           ),
         ),
       ),
     )
 
+-- … and its ring is lent whole exactly where 4 is not given either
+pub usable-known : (book : Book) (lent : ℕ) (own : List Fault) → NoneHolds (bookFaults book lent ++ own) → Usable book lent × NoneHolds own
+usable-known book lent own h =
+    let k = sound-known book (roomFault (bytesOf book) lent ∷ own) h in
+    (record { sound = k .0; room = ltb-false lent (bytesOf book) (k .1 .0) }, k .1 .1)
+
+pub usable-passes : (book : Book) (lent : ℕ) (own : List Fault) → Usable book lent → NoneHolds own → NoneHolds (bookFaults book lent ++ own)
+usable-passes book lent own u h =
+    sound-passes book (roomFault (bytesOf book) lent ∷ own) (u .sound) (le-ltb lent (bytesOf book) (u .room), h)
+
 -- AS THE CODE JUDGES: L, n and D first, then the rest of the record, then the room
-module _ (book : Book) (lent : ℕ) where
+module _ (book : Book) where
   -- the three tests that give 1, 2 and 3 at opening give 8 where they are asked of a record
   pub no-ranges : {n : ℕ} → n ≡ firstOf (numberFaults (book .bound) (book .length) (book .tolerance)) → (n ≡ 0 → ⊥)
-      → noBook ≡ firstOf (bookFaults book lent)
+      → noBook ≡ firstOf (recordFaults book)
   no-ranges en ne =
-      first-stops (rangeFaults book) (stateFaults book ++ roomFault (bytesOf book) lent ∷ []) noBook
+      first-stops (rangeFaults book) (stateFaults book) noBook
       (by (outside 1 largestBound (book .bound)) (outside 1 largestLength (book .length)) (outside 1 (book .length * book .bound) (book .tolerance))
       (λ e. ne (en ∙ e)))
       (λ e. omega arith)
@@ -132,24 +138,26 @@ module _ (book : Book) (lent : ℕ) where
       by false false true h = refl
       by false false false h = absurd (h refl)
 
-  module _ (ranges : Ranges (book .bound) (book .length) (book .tolerance)) where
-    ranged : firstOf (bookFaults book lent) ≡ firstOf (stateFaults book ++ roomFault (bytesOf book) lent ∷ [])
-    ranged =
-        first-goes-on (rangeFaults book) (stateFaults book ++ roomFault (bytesOf book) lent ∷ [])
-        (none-refuses (rangeFaults book) (ranges-pass (book .bound) (book .length) (book .tolerance) [] ranges tt))
+  -- with L, n and D in their ranges the rest of the record decides
+  pub state-decides : Ranges (book .bound) (book .length) (book .tolerance) → firstOf (stateFaults book) ≡ firstOf (recordFaults book)
+  state-decides ranges =
+      sym
+      (first-goes-on (rangeFaults book) (stateFaults book)
+      (none-refuses (rangeFaults book) (ranges-pass (book .bound) (book .length) (book .tolerance) [] ranges tt)))
 
-    pub no-state : {n : ℕ} → n ≡ firstOf (stateFaults book) → (n ≡ 0 → ⊥) → n ≡ firstOf (bookFaults book lent)
-    no-state {n} en ne = first-stops (stateFaults book) (roomFault (bytesOf book) lent ∷ []) n en ne ∙ sym ranged
+  module _ (lent : ℕ) where
+    pub no-record : {n : ℕ} → n ≡ firstOf (recordFaults book) → (n ≡ 0 → ⊥) → n ≡ firstOf (bookFaults book lent)
+    no-record {n} en ne = first-stops (recordFaults book) (roomFault (bytesOf book) lent ∷ []) n en ne
 
-    module _ (passed : firstOf (stateFaults book) ≡ 0) where
-      stated : firstOf (bookFaults book lent) ≡ firstOf (roomFault (bytesOf book) lent ∷ [])
-      stated = ranged ∙ first-goes-on (stateFaults book) (roomFault (bytesOf book) lent ∷ []) passed
+    module _ (passed : firstOf (recordFaults book) ≡ 0) where
+      room-decides : firstOf (bookFaults book lent) ≡ firstOf (roomFault (bytesOf book) lent ∷ [])
+      room-decides = first-goes-on (recordFaults book) (roomFault (bytesOf book) lent ∷ []) passed
 
       pub no-room : lent < bytesOf book → ringTooShort ≡ firstOf (bookFaults book lent)
-      no-room short = sym (stated ∙ rw (lt-ltb lent (bytesOf book) short))
+      no-room short = sym (room-decides ∙ rw (lt-ltb lent (bytesOf book) short))
 
       pub book-passes : bytesOf book ≤ lent → 0 ≡ firstOf (bookFaults book lent)
-      book-passes room = sym (stated ∙ rw (le-ltb lent (bytesOf book) room))
+      book-passes room = sym (room-decides ∙ rw (le-ltb lent (bytesOf book) room))
 
 -- what the code knows where it found no refusal
 pub usable-found : (book : Book) (lent : ℕ) → 0 ≡ firstOf (bookFaults book lent) → Usable book lent
@@ -179,8 +187,33 @@ positive n e = let ne : n ≡ 0 → ⊥ = eqb-false n 0 e in omega (arith, ne)
 not-zero : (n : ℕ) → 0 < n → eqb n 0 ≡ false
 not-zero n h = ne-eqb n 0 (λ e. omega arith)
 
+-- RESTING AND WAKING: where the record is a book
+module _ (book : Book) (mark : ℕ) where
+  pub mark-known : refusalOf (markCall book mark) ≡ 0 → Sound book
+  unfolding markCall
+  mark-known e = sound-known book [] (nothing-holds (recordFaults book) (written-out (recordFaults book) tt) e) .0
+
+  pub mark-taken : Sound book → refusalOf (markCall book mark) ≡ 0
+  unfolding markCall
+  mark-taken sound = none-refuses (recordFaults book) (sound-passes book [] sound tt)
+
+-- what a call asks behind the nine tests of 8 and 4. (It is taken from the row and not written out, so that which of 17 and 7 comes first is the
+-- row's own word.)
+abbrev laterFaults : {Result : Type 0} → Call Result (List ℕ) → List Fault
+laterFaults call = drop 9 (call .faults)
+
+-- once 8 and 4 are passed, a book that rests refuses with 17: every item and every run, whether or not a count is above L
+module _ (book : Book) (ring : List ℕ) (passed : firstOf (bookFaults book (length ring)) ≡ 0) (down : book .resting ≡ awake → ⊥) where
+  pub item-17 : (item : ℕ) → refusalOf (addCall book ring item) ≡ bookRests
+  unfolding addCall
+  item-17 item = first-goes-on (bookFaults book (length ring)) (laterFaults (addCall book ring item)) passed ∙ simp (rest-holds book down)
+
+  pub run-17 : (counts : List ℕ) → refusalOf (runCall book ring counts) ≡ bookRests
+  unfolding runCall
+  run-17 counts = first-goes-on (bookFaults book (length ring)) (laterFaults (runCall book ring counts)) passed ∙ simp (rest-holds book down)
+
 module _ (book : Book) (ring : List ℕ) where
-  -- every call with a book judges the book first, and then what it asks of its own numbers
+  -- every call with a book and its ring judges them first, and then its own faults
   known : (own : List Fault) → T (noneIs0 own) → firstOf (bookFaults book (length ring) ++ own) ≡ 0 → Usable book (length ring) × NoneHolds own
   known own numbered e =
       let faults = bookFaults book (length ring) ++ own in
@@ -189,42 +222,43 @@ module _ (book : Book) (ring : List ℕ) where
   taken : (own : List Fault) → Usable book (length ring) → NoneHolds own → firstOf (bookFaults book (length ring) ++ own) ≡ 0
   taken own u h = none-refuses (bookFaults book (length ring) ++ own) (usable-passes book (length ring) own u h)
 
-  -- where all that it asks is that x is at most some number
-  at-most-known : (most x number : ℕ) → T (noneIs0 ((ltb most x gives number) ∷ []))
-      → firstOf (bookFaults book (length ring) ++ (ltb most x gives number) ∷ []) ≡ 0 → Usable book (length ring) × (x ≤ most)
-  at-most-known most x number numbered e =
-      let k = known ((ltb most x gives number) ∷ []) numbered e in
-      (k .0, ltb-false most x (k .1 .0))
-
-  -- ADDING: where the item is at most L; a TOTAL: where the window is at most kept
-  pub add-known : (item : ℕ) → refusalOf (addCall book ring item) ≡ 0 → Usable book (length ring) × (item ≤ book .bound)
+  -- ADDING: where the book is awake and the item is at most L
+  pub add-known : (item : ℕ) → refusalOf (addCall book ring item) ≡ 0
+      → Usable book (length ring) × (item ≤ book .bound) × (book .resting ≡ awake)
   unfolding addCall
-  add-known item = at-most-known (book .bound) item itemTooLarge tt
+  add-known item e =
+      let k = known (restFault book ∷ itemFault book item ∷ []) tt e in
+      (k .0, ltb-false (book .bound) item (k .1 .1 .0), awake-known book (k .1 .0))
 
+  pub add-taken : (item : ℕ) → Usable book (length ring) → item ≤ book .bound → book .resting ≡ awake
+      → refusalOf (addCall book ring item) ≡ 0
+  unfolding addCall
+  add-taken item u h up =
+      taken (restFault book ∷ itemFault book item ∷ []) u (awake-passes book up, (le-ltb (book .bound) item h, tt))
+
+  -- a TOTAL: where the window is at most kept
   pub total-known : (window : ℕ) → refusalOf (totalCall book ring window) ≡ 0 → Usable book (length ring) × (window ≤ book .kept)
   unfolding totalCall
-  total-known window = at-most-known (book .kept) window windowTooLong tt
-
-  pub add-taken : (item : ℕ) → Usable book (length ring) → item ≤ book .bound → refusalOf (addCall book ring item) ≡ 0
-  unfolding addCall
-  add-taken item u h = taken (itemFault book item ∷ []) u (le-ltb (book .bound) item h, tt)
+  total-known window e =
+      let k = known (windowFault book window ∷ []) tt e in
+      (k .0, ltb-false (book .kept) window (k .1 .0))
 
   pub total-taken : (window : ℕ) → Usable book (length ring) → window ≤ book .kept → refusalOf (totalCall book ring window) ≡ 0
   unfolding totalCall
   total-taken window u h = taken (windowFault book window ∷ []) u (le-ltb (book .kept) window h, tt)
 
-  -- a RUN: where none of its counts is above L
+  -- a RUN: where the book is awake and none of its counts is above L
   pub run-known : (counts : List ℕ) → refusalOf (runCall book ring counts) ≡ 0
-      → Usable book (length ring) × (anyAbove (book .bound) counts ≡ false)
+      → Usable book (length ring) × (anyAbove (book .bound) counts ≡ false) × (book .resting ≡ awake)
   unfolding runCall
   run-known counts e =
-      let k = known (countsFault book counts ∷ []) tt e in
-      (k .0, k .1 .0)
+      let k = known (restFault book ∷ countsFault book counts ∷ []) tt e in
+      (k .0, k .1 .1 .0, awake-known book (k .1 .0))
 
-  pub run-taken : (counts : List ℕ) → Usable book (length ring) → anyAbove (book .bound) counts ≡ false
+  pub run-taken : (counts : List ℕ) → Usable book (length ring) → anyAbove (book .bound) counts ≡ false → book .resting ≡ awake
       → refusalOf (runCall book ring counts) ≡ 0
   unfolding runCall
-  run-taken counts u none = taken (countsFault book counts ∷ []) u (none, tt)
+  run-taken counts u none up = taken (restFault book ∷ countsFault book counts ∷ []) u (awake-passes book up, (none, tt))
 
   -- HOW FAR BACK: where the amount is not 0 and a window reaches it
   pub far-known : (amount : ℕ) → refusalOf (howFarCall book ring amount) ≡ 0
@@ -265,6 +299,11 @@ open-gives bound n tolerance ring e =
     let call = openCall bound n tolerance ring in
     (sym (result-taken call (sym e) refl), sym (left-taken call (sym e) refl))
 
+pub mark-gives : (book : Book) (mark : ℕ) → refusalOf (markCall book mark) ≡ 0
+    → resultOf (markCall book mark) ≡ record { refusal = 0; book = marked book mark }
+unfolding markCall
+mark-gives book mark e = sym (result-taken (markCall book mark) (sym e) refl)
+
 module _ (book : Book) (ring : List ℕ) where
   pub add-gives : (item : ℕ) → refusalOf (addCall book ring item) ≡ 0
       → (resultOf (addCall book ring item) ≡ record { refusal = 0; book = added book item })
@@ -288,7 +327,8 @@ module _ (book : Book) (ring : List ℕ) where
   total-gives window e = sym (result-taken (totalCall book ring window) (sym e) refl)
 
   pub verdict-gives : (window amount : ℕ) → refusalOf (verdictCall book ring window amount) ≡ 0
-      → resultOf (verdictCall book ring window amount) ≡ Told (verdictOf (book .tolerance) amount (figure book ring window))
+      → resultOf (verdictCall book ring window amount)
+      ≡ Told (record { window = window; verdict = verdictNow book amount (figure book ring window) })
   unfolding verdictCall
   verdict-gives window amount e = sym (result-taken (verdictCall book ring window amount) (sym e) refl)
 

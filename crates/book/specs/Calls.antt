@@ -3,7 +3,7 @@ use Prim.Native.Nat.{ℕ, _+_, _-_, _*_}
 use mathlib.Core.List.{List, [], _∷_, _++_}
 use lib.Dec.{ltb, leb, eqb}
 use lib.ListN.{length}
-use Rattle.refusals.specs.Numbers.{ringTooShort, windowTooLong, zeroAsked, itemTooLarge, noBook, notReached}
+use Rattle.refusals.specs.Numbers.{ringTooShort, windowTooLong, zeroAsked, itemTooLarge, noBook, notReached, bookRests}
 use Rattle.refusals.specs.First.{Fault, _gives_, outside}
 use Rattle.refusals.specs.Call.{Call}
 use Rattle.ring.specs.Slot.{cleared}
@@ -17,12 +17,13 @@ use Rattle.book.specs.declared.verdicts.Ruling.the-variants.{Told, Refus
 use Rattle.book.specs.Limits.{largestBound, largestLength}
 use Rattle.book.specs.Derived.{slotCount, fieldWidth, bytesNeeded}
 use Rattle.book.specs.Shape.{numberFaults}
+use Rattle.book.specs.Resting.{awake, atRest, rests, marked}
 use Rattle.book.specs.Record.{blockOf, slotsOf, bytesOf, opened, noBookAtAll}
 use Rattle.book.specs.Adding.{added, addedRing}
 use Rattle.book.specs.RunOfCounts.{anyAbove, placeWith, addedAll, addedAllRing}
 use Rattle.book.specs.Figure.{figure}
 use Rattle.book.specs.HowFar.{howFarBack}
-use Rattle.book.specs.Verdict.{verdictOf}
+use Rattle.book.specs.Verdict.{verdictNow}
 
 -- 4: the ring slice has fewer than B bytes
 abbrev pub roomFault : ℕ → ℕ → Fault
@@ -46,9 +47,17 @@ stateFaults book =
     ∷ (ltb (book .tolerance - 1 + book .phase * book .bound) (book .carry) gives noBook)
     ∷ []
 
--- 8, then 4: every call with a book begins with these
+-- all that gives 8: it is said of the record alone, and not of its mark
+abbrev pub recordFaults : Book → List Fault
+recordFaults book = rangeFaults book ++ stateFaults book
+
+-- 8, then 4: every call with a book and its ring begins with these
 abbrev pub bookFaults : Book → ℕ → List Fault
-bookFaults book lent = rangeFaults book ++ stateFaults book ++ roomFault (bytesOf book) lent ∷ []
+bookFaults book lent = recordFaults book ++ roomFault (bytesOf book) lent ∷ []
+
+-- 17: the book rests
+abbrev pub restFault : Book → Fault
+restFault book = rests book gives bookRests
 
 -- 7: the item is above L
 abbrev pub itemFault : Book → ℕ → Fault
@@ -81,31 +90,49 @@ openCall bound n tolerance ring =
       lent = ring;
     }
 
--- Adding: 8, 4, 7. It gives the record with the item and puts the quotient into the ring where the block closes; a refusal hands the record
+-- Adding: 8, 4, 17, 7. It gives the record with the item and puts the quotient into the ring where the block closes; a refusal hands the record
 -- back as it came
 unfoldable pub addCall : Book → List ℕ → ℕ → Call Updated (List ℕ)
 addCall book ring item =
     record {
-      faults = bookFaults book (length ring) ++ itemFault book item ∷ [];
+      faults = bookFaults book (length ring) ++ restFault book ∷ itemFault book item ∷ [];
       given = record { refusal = 0; book = added book item };
       left = addedRing book ring item;
       back = λ refusal. record { refusal = refusal; book = book };
       lent = ring;
     }
 
--- A run of counts: 8, 4, 7. It gives the record and leaves the ring with all counts added; a refusal hands the record back as it came, and
+-- A run of counts: 8, 4, 17, 7. It gives the record and leaves the ring with all counts added; a refusal hands the record back as it came, and
 -- with 7 comes the place of the first count above L
 unfoldable pub runCall : Book → List ℕ → List ℕ → Call Ran (List ℕ)
 runCall book ring counts =
     record {
-      faults = bookFaults book (length ring) ++ countsFault book counts ∷ [];
+      faults = bookFaults book (length ring) ++ restFault book ∷ countsFault book counts ∷ [];
       given = record { refusal = 0; place = 0; book = addedAll book counts };
       left = addedAllRing book ring counts;
       back = λ refusal. record { refusal = refusal; place = placeWith (book .bound) counts refusal; book = book };
       lent = ring;
     }
 
--- Total: 8, 4, 5. It gives the figure
+-- Setting the mark: 8. It gives the record with that mark; a refusal hands the record back as it came. Nothing is lent
+unfoldable pub markCall : Book → ℕ → Call Updated (Unit {0})
+markCall book mark =
+    record {
+      faults = recordFaults book;
+      given = record { refusal = 0; book = marked book mark };
+      left = tt;
+      back = λ refusal. record { refusal = refusal; book = book };
+      lent = tt;
+    }
+
+-- Resting sets it, and waking clears it
+abbrev pub restCall : Book → Call Updated (Unit {0})
+restCall book = markCall book atRest
+
+abbrev pub wakeCall : Book → Call Updated (Unit {0})
+wakeCall book = markCall book awake
+
+-- Total: 8, 4, 5. It gives the figure, whatever the mark
 unfoldable pub totalCall : Book → List ℕ → ℕ → Call Figure (List ℕ)
 totalCall book ring window =
     record {
@@ -116,7 +143,7 @@ totalCall book ring window =
       lent = ring;
     }
 
--- How far back: 8, 4, 6, 9. It gives the window
+-- How far back: 8, 4, 6, 9. It gives the window, whatever the mark
 unfoldable pub howFarCall : Book → List ℕ → ℕ → Call Window (List ℕ)
 howFarCall book ring amount =
     let window = howFarBack book ring amount in
@@ -128,12 +155,12 @@ howFarCall book ring amount =
       lent = ring;
     }
 
--- Verdict: 8, 4, 6, 5. It tells the verdict with its figure
+-- Verdict: 8, 4, 6, 5. It tells the page the window and the verdict with its figure; only then is it asked whether the book rests
 unfoldable pub verdictCall : Book → List ℕ → ℕ → ℕ → Call Ruling (List ℕ)
 verdictCall book ring window amount =
     record {
       faults = bookFaults book (length ring) ++ zeroFault amount ∷ zeroFault window ∷ windowFault book window ∷ [];
-      given = Told (verdictOf (book .tolerance) amount (figure book ring window));
+      given = Told (record { window = window; verdict = verdictNow book amount (figure book ring window) });
       left = ring;
       back = λ refusal. Refused refusal;
       lent = ring;

@@ -1,6 +1,7 @@
 pub mod Limits
 pub mod Derived
 pub mod Shape
+pub mod Resting
 pub mod Record
 pub mod Sound
 pub mod Stops

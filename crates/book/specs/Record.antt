@@ -1,4 +1,5 @@
--- The record of a book (SCOPE, Record): L, n, D, the carry R, the phase p, kept and head. Its derived numbers, and how a changed record is made.
+-- The record of a book (SCOPE, Record): L, n, D, the carry R, the phase p, kept, head and the resting mark. Its derived numbers, and how
+-- adding makes a changed record.
 use Prim.Native.Nat.{ℕ}
 use mathlib.Core.List.{List}
 use Rattle.ring.specs.Slot.{field}
@@ -6,6 +7,7 @@ use Rattle.book.specs.declared.Book.{Book}
 use Rattle.book.specs.declared.shape.Shape.{Shape}
 use Rattle.book.specs.Derived.{blockLength, slotCount, largestQuotient, fieldWidth, bytesNeeded}
 use Rattle.book.specs.Shape.{shapeOf}
+use Rattle.book.specs.Resting.{awake}
 
 -- c, s, z, b and B of a record, together and each by itself
 abbrev pub shapeFor : Book → Shape
@@ -30,7 +32,7 @@ bytesOf book = bytesNeeded (book .bound) (book .length) (book .tolerance)
 abbrev pub heldIn : Book → List ℕ → ℕ → ℕ
 heldIn book ring = field (widthOf book) ring
 
--- the record with another carry, phase, kept and head
+-- the record with another carry, phase, kept and head: what adding changes
 abbrev pub recordWith : Book → ℕ → ℕ → ℕ → ℕ → Book
 recordWith book carry phase kept head =
     record {
@@ -41,12 +43,13 @@ recordWith book carry phase kept head =
       phase = phase;
       kept = kept;
       head = head;
+      resting = book .resting;
     }
 
--- the record that opening makes: R, p, kept and head are 0
+-- the record that opening makes: R, p, kept and head are 0, and so is the mark
 abbrev pub opened : ℕ → ℕ → ℕ → Book
 opened bound length tolerance =
-    record { bound = bound; length = length; tolerance = tolerance; carry = 0; phase = 0; kept = 0; head = 0 }
+    record { bound = bound; length = length; tolerance = tolerance; carry = 0; phase = 0; kept = 0; head = 0; resting = awake }
 
 -- the record of all zeros
 abbrev pub noBookAtAll : Book

@@ -1,4 +1,5 @@
--- A record that is a book, as refusal 8 has it (SCOPE, Refusals), put positively: each of its numbers in its range.
+-- A record that is a book, as refusal 8 has it (SCOPE, Refusals), put positively: each of its numbers in its range, but the
+-- mark, which has none.
 use Prim.Native.Nat.{ℕ, _+_, _-_, _*_, _≤_, _<_}
 use Rattle.book.specs.declared.Book.{Book}
 use Rattle.book.specs.Limits.{largestBound, largestLength}

@@ -1,11 +1,13 @@
--- The verdict for window w and amount v: SCOPE, Verdict.
+-- The verdict for window w and amount v, and what the page is told: SCOPE, Verdict and Dark hours.
 use Prim.Native.Nat.{ℕ, _+_, _-_}
 use mathlib.Core.Bool.{cond}
 use lib.Dec.{leb, ltb}
+use Rattle.book.specs.declared.Book.{Book}
 use Rattle.book.specs.declared.verdicts.Verdict.{Verdict}
-use Rattle.book.specs.declared.verdicts.Verdict.the-variants.{Live, Frozen, Undecided}
+use Rattle.book.specs.declared.verdicts.Verdict.the-variants.{Live, Frozen, Undecided, Resting}
 use Rattle.book.specs.declared.verdicts.Ruling.{Ruling}
 use Rattle.book.specs.declared.verdicts.Ruling.the-variants.{Told, Refused}
+use Rattle.book.specs.Resting.{rests}
 
 -- with figure f: live if f ≥ v; frozen if f + D − 1 < v; otherwise undecided
 unfoldable pub verdictOf : ℕ → ℕ → ℕ → Verdict
@@ -13,29 +15,39 @@ verdictOf tolerance amount figure =
     cond (leb amount figure) (Live figure)
     (cond (ltb (figure + tolerance - 1) amount) (Frozen figure) (Undecided figure))
 
--- the figure that a verdict carries
-abbrev pub figureIn : Verdict → ℕ
-figureIn (Live figure) = figure
-figureIn (Frozen figure) = figure
-figureIn (Undecided figure) = figure
+-- of a book: while it rests the verdict is resting, whatever v is; otherwise it goes by the figure
+unfoldable pub verdictNow : Book → ℕ → ℕ → Verdict
+verdictNow book amount figure = cond (rests book) (Resting figure) (verdictOf (book .tolerance) amount figure)
 
--- the number for each case of an answer: the refusal, 0 where a verdict is told …
+-- the number and the figure of each case of a verdict
+abbrev pub caseOf : Verdict → ℕ × ℕ
+caseOf (Live figure) = (1, figure)
+caseOf (Frozen figure) = (2, figure)
+caseOf (Undecided figure) = (3, figure)
+caseOf (Resting figure) = (4, figure)
+
+abbrev pub verdictNumber : Verdict → ℕ
+verdictNumber verdict = caseOf verdict .0
+
+abbrev pub figureIn : Verdict → ℕ
+figureIn verdict = caseOf verdict .1
+
+-- the numbers of an answer: the refusal, 0 where a verdict is told …
 abbrev pub refusalIn : Ruling → ℕ
-refusalIn (Told verdict) = 0
+refusalIn (Told notice) = 0
 refusalIn (Refused refusal) = refusal
 
--- … and its figure, 0 where it is refused
+-- … the window, 0 where it is refused …
+abbrev pub windowIn : Ruling → ℕ
+windowIn (Told notice) = notice .window
+windowIn (Refused refusal) = 0
+
+-- … the figure, 0 where it is refused …
 abbrev pub valueIn : Ruling → ℕ
-valueIn (Told verdict) = figureIn verdict
+valueIn (Told notice) = figureIn (notice .verdict)
 valueIn (Refused refusal) = 0
 
--- a verdict as a number: 1 live, 2 frozen, 3 undecided …
-abbrev pub verdictNumber : Verdict → ℕ
-verdictNumber (Live figure) = 1
-verdictNumber (Frozen figure) = 2
-verdictNumber (Undecided figure) = 3
-
--- … and 0 where there is none
+-- … and the verdict's number, 0 where it is refused
 abbrev pub rulingNumber : Ruling → ℕ
-rulingNumber (Told verdict) = verdictNumber verdict
+rulingNumber (Told notice) = verdictNumber (notice .verdict)
 rulingNumber (Refused refusal) = 0

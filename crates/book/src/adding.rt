@@ -11,7 +11,7 @@ use crate::Book;
 use crate::shape::Shape;
 use crate::slots;
 
-// The record with another carry, phase, kept and head: the one place where a changed record is made.
+// The record with another carry, phase, kept and head: the one place where an item or a run changes it.
 pub(crate) fn with(book: Book, carry: u64, phase: u64, kept: u64, head: u64) -> Book
     ensures { λ r. ⌜ r ≡ recordWith book carry phase kept head ⌝ }
 {
@@ -23,6 +23,7 @@ pub(crate) fn with(book: Book, carry: u64, phase: u64, kept: u64, head: u64) -> 
         phase,
         kept,
         head,
+        resting: book.resting,
     }
 }
 

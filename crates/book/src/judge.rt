@@ -1,15 +1,18 @@
-// Whether a record is a book and its ring is lent whole: refusals 8 and 4, which every call with a book asks first.
+// Whether a record is a book and its ring is lent whole: refusals 8 and 4, which every call with a book and its ring asks first; and whether
+// it takes items: 17 where it rests, which adding and runs ask next.
 ghost use mathlib.Core.Path.{_≡_};
 ghost use lib.ListN.{length};
 ghost use Rattle.refusals.specs.First.{firstOf};
 ghost use Rattle.book.specs.Record.{shapeFor};
 ghost use Rattle.book.specs.Sound.{Ranges};
 ghost use Rattle.book.specs.Calls.{stateFaults};
-ghost use Rattle.book.specs.Judged.{Judged};
+ghost use Rattle.book.specs.Judged.{Known, Judged, JudgedTaking};
 use crate::Book;
+use crate::resting;
 use crate::shape;
 use crate::shape::Shape;
 use crate::shape::Shaped;
+use refusals::BOOK_RESTS;
 use refusals::NO_BOOK;
 use refusals::RING_TOO_SHORT;
 
@@ -36,9 +39,9 @@ fn state(book: Book, shape: Shape) -> u8
     0
 }
 
-// 8, then 4; with neither, the book's numbers are there to go on with.
-pub(crate) fn usable(book: Book, lent: u64) -> Shaped
-    ensures { λ r. ⌜ Judged book lent r ⌝ }
+// 8 alone; without it the book's numbers are there to go on with.
+pub(crate) fn known(book: Book) -> Shaped
+    ensures { λ r. ⌜ Known book r ⌝ }
 {
     let shaped = shape::derive(book.bound, book.length, book.tolerance);
     let shape = shaped.shape;
@@ -48,9 +51,20 @@ pub(crate) fn usable(book: Book, lent: u64) -> Shaped
             shape,
         };
     }
-    let refusal = state(book, shape);
-    if refusal != 0 {
-        return Shaped { refusal, shape };
+    Shaped {
+        refusal: state(book, shape),
+        shape,
+    }
+}
+
+// 8, then 4.
+pub(crate) fn usable(book: Book, lent: u64) -> Shaped
+    ensures { λ r. ⌜ Judged book lent r ⌝ }
+{
+    let known = known(book);
+    let shape = known.shape;
+    if known.refusal != 0 {
+        return known;
     }
     if lent < shape.bytes {
         return Shaped {
@@ -58,7 +72,25 @@ pub(crate) fn usable(book: Book, lent: u64) -> Shaped
             shape,
         };
     }
-    Shaped { refusal: 0, shape }
+    known
+}
+
+// 8, 4, then 17.
+pub(crate) fn takes(book: Book, lent: u64) -> Shaped
+    ensures { λ r. ⌜ JudgedTaking book lent r ⌝ }
+{
+    let judged = usable(book, lent);
+    let shape = judged.shape;
+    if judged.refusal != 0 {
+        return judged;
+    }
+    if book.resting != resting::AWAKE {
+        return Shaped {
+            refusal: BOOK_RESTS,
+            shape,
+        };
+    }
+    judged
 }
 
 // A length as a number of the book.

@@ -3,24 +3,26 @@
 ghost use mathlib.Core.Path.{_≡_};
 ghost use Rattle.refusals.specs.Call.{resultOf, leftOf};
 ghost use Rattle.book.specs.Record.{opened};
-ghost use Rattle.book.specs.Calls.{openCall, addCall, runCall, totalCall, howFarCall, verdictCall};
+ghost use Rattle.book.specs.Calls.{openCall, addCall, runCall, restCall, wakeCall, totalCall, howFarCall, verdictCall};
 use refusals::ITEM_TOO_LARGE;
 use refusals::NOT_REACHED;
 use refusals::RING_TOO_SHORT;
 use refusals::WINDOW_TOO_LONG;
 use refusals::ZERO_ASKED;
+use verdicts::Notice;
 use verdicts::Ruling;
 
 mod adding;
 mod distance;
 mod judge;
+mod resting;
 mod running;
 pub mod shape;
 mod slots;
 mod totals;
 pub mod verdicts;
 
-// L, n and D, which opening sets; the carry R, the phase p, kept and head, which adding changes.
+// L, n and D, which opening sets; the carry R, the phase p, kept and head, which adding changes; and the resting mark: 0, or the book rests.
 #[repr(C)]
 pub struct Book {
     pub bound: u64,
@@ -30,6 +32,7 @@ pub struct Book {
     pub phase: u64,
     pub kept: u64,
     pub head: u64,
+    pub resting: u64,
 }
 
 // A refusal number, 0 for none, and the record to go on with.
@@ -98,6 +101,7 @@ fn fresh(bound: u64, length: u64, tolerance: u64) -> Book
         phase: 0,
         kept: 0,
         head: 0,
+        resting: resting::AWAKE,
     }
 }
 
@@ -105,7 +109,7 @@ fn fresh(bound: u64, length: u64, tolerance: u64) -> Book
 pub fn add(book: Book, ring: &mut [u8], item: u64) -> Updated
     ensures { λ r. ⌜ (r ≡ resultOf (addCall book (now (ring .entry)) item)) × (now (ring .exit) ≡ leftOf (addCall book (now (ring .entry)) item)) ⌝ }
 {
-    let judged = judge::usable(book, judge::count(ring.len()));
+    let judged = judge::takes(book, judge::count(ring.len()));
     if judged.refusal != 0 {
         return Updated {
             refusal: judged.refusal,
@@ -130,7 +134,7 @@ pub fn add(book: Book, ring: &mut [u8], item: u64) -> Updated
 pub fn run(book: Book, ring: &mut [u8], counts: &[u64]) -> Ran
     ensures { λ r. ⌜ (r ≡ resultOf (runCall book (now (ring .entry)) (now (counts .entry)))) × (now (ring .exit) ≡ leftOf (runCall book (now (ring .entry)) (now (counts .entry)))) ⌝ }
 {
-    let judged = judge::usable(book, judge::count(ring.len()));
+    let judged = judge::takes(book, judge::count(ring.len()));
     if judged.refusal != 0 {
         return Ran {
             refusal: judged.refusal,
@@ -153,6 +157,20 @@ pub fn run(book: Book, ring: &mut [u8], counts: &[u64]) -> Ran
         place: 0,
         book: next,
     }
+}
+
+// Gives the record with its mark set: a book that rests takes no items, and its verdict is resting.
+pub fn rest(book: Book) -> Updated
+    ensures { λ r. ⌜ r ≡ resultOf (restCall book) ⌝ }
+{
+    resting::mark(book, resting::AT_REST)
+}
+
+// Gives the record with its mark cleared: the book is awake again.
+pub fn wake(book: Book) -> Updated
+    ensures { λ r. ⌜ r ≡ resultOf (wakeCall book) ⌝ }
+{
+    resting::mark(book, resting::AWAKE)
 }
 
 // The figure for the last `window` items.
@@ -204,7 +222,7 @@ fn no_window(refusal: u8) -> Window
     Window { refusal, window: 0 }
 }
 
-// The verdict for a window and an amount.
+// The verdict for a window and an amount, as the page is told it.
 pub fn verdict(book: Book, ring: &[u8], window: u64, amount: u64) -> Ruling
     ensures { λ r. ⌜ r ≡ resultOf (verdictCall book (now (ring .entry)) window amount) ⌝ }
 {
@@ -223,5 +241,8 @@ pub fn verdict(book: Book, ring: &[u8], window: u64, amount: u64) -> Ruling
     }
     let shape = judged.shape;
     let figure = totals::figure_of(book, shape, ring, window);
-    Ruling::Told(verdicts::rule(book.tolerance, amount, figure))
+    Ruling::Told(Notice {
+        window,
+        verdict: verdicts::tell(book, amount, figure),
+    })
 }

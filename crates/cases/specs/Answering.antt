@@ -41,7 +41,7 @@ howFarAnswer left amount =
     byRefusal (r .refusal) (window (r .window)) refused
 
 abbrev rulingAnswer : Ruling → Answer
-rulingAnswer (Told said) = told said
+rulingAnswer (Told notice) = told (notice .verdict)
 rulingAnswer (Refused number) = refused number
 
 abbrev verdictAnswer : State → ℕ → ℕ → Answer

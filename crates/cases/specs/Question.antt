@@ -34,6 +34,6 @@ pub data Answer : Type 0 where
   figure : ℕ → Answer
   true : ℕ → Answer
   window : ℕ → Answer
-  -- Live, Frozen or Undecided with its figure
+  -- a verdict with its figure
   told : Verdict → Answer
   refused : ℕ → Answer

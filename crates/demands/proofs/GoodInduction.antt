@@ -1,4 +1,4 @@
--- The one induction over good books: what a fresh book has, and what an accepted item keeps, every good book has.
+-- The one induction over good books: what a fresh book has, and what an accepted item and another mark keep, every good book has.
 -- Assumes nothing.
 use Prim.Native.Nat.{ℕ, _≤_}
 use mathlib.Core.List.{List, [], _∷_}
@@ -11,11 +11,12 @@ use Rattle.ring.specs.Slot.{cleared}
 use Rattle.book.specs.declared.Book.{Book}
 use Rattle.book.specs.declared.Updated.{Updated}
 use Rattle.book.specs.Derived.{fieldWidth, slotCount, bytesNeeded}
+use Rattle.book.specs.Resting.{awake, atRest, marked}
 use Rattle.book.specs.Record.{opened}
 use Rattle.book.specs.Sound.{Ranges, Usable}
 use Rattle.book.specs.Adding.{added, addedRing}
-use Rattle.book.proofs.Promises.{open-known, open-gives, add-known, add-gives}
-use Rattle.demands.specs.History.{Upon, OnlyAsks, Good, start, adding, otherwise}
+use Rattle.book.proofs.Promises.{open-known, open-gives, add-known, add-gives, mark-gives}
+use Rattle.demands.specs.History.{Upon, OnlyAsks, Good, start, adding, resting, waking, otherwise}
 
 -- a call that is refused or only asks leaves record and ring as they came
 pub nothing-changes : (book : Book) (ring : List ℕ) (call : Call Book (List ℕ)) → Upon book ring call
@@ -31,7 +32,8 @@ module _ (P : Book → List ℕ → List ℕ → Type 0)
     (fresh : (bound n tolerance : ℕ) (lent : List ℕ) → Ranges bound n tolerance → bytesNeeded bound n tolerance ≤ length lent
     → P (opened bound n tolerance) (cleared (fieldWidth bound tolerance) (slotCount bound n tolerance) lent) [])
     (more : (book : Book) (ring items : List ℕ) (item : ℕ) → P book ring items → Usable book (length ring) → item ≤ book .bound
-    → P (added book item) (addedRing book ring item) (item ∷ items)) where
+    → P (added book item) (addedRing book ring item) (item ∷ items))
+    (marks : (book : Book) (ring items : List ℕ) (mark : ℕ) → P book ring items → P (marked book mark) ring items) where
   pub good-induction : (book : Book) (ring items : List ℕ) → Good book ring items → P book ring items
   good-induction book ring items (start bound n tolerance lent e) =
       let known = open-known bound n tolerance lent e in
@@ -42,6 +44,10 @@ module _ (P : Book → List ℕ → List ℕ → Type 0)
       let gives = add-gives old bytes item e in
       rw (ap (λ (r : Updated). r .book) (gives .0), gives .1)
       (more old bytes earlier item (good-induction old bytes earlier good) (known .0) (known .1))
+  good-induction book ring items (resting old bytes same good e) =
+      rw (ap (λ (r : Updated). r .book) (mark-gives old atRest e)) (marks old bytes same atRest (good-induction old bytes same good))
+  good-induction book ring items (waking old bytes same good e) =
+      rw (ap (λ (r : Updated). r .book) (mark-gives old awake e)) (marks old bytes same awake (good-induction old bytes same good))
   good-induction book ring items (otherwise old bytes same good call upon idle) =
       let kept = nothing-changes old bytes call upon idle in
       rw (kept .0, kept .1) (good-induction old bytes same good)

@@ -1,5 +1,5 @@
--- Every good book keeps to the invariant and passes refusals 8 and 4 at every call, so that an item up to its bound is taken, and a verdict
--- for a window and an amount above 0 is told, or refused with 5 alone, exactly where the window is longer than kept.
+-- Every good book keeps to the invariant and passes refusals 8 and 4 at every call, so that an item up to its bound is taken while the book is
+-- awake, and a verdict for a window and an amount above 0 is told, or refused with 5 alone, exactly where the window is longer than kept.
 -- Assumes nothing.
 use Prim.Native.Nat.{ℕ, _≤_, _<_}
 use mathlib.Core.List.{List}
@@ -11,13 +11,14 @@ use Rattle.ring.proofs.Promises.{length-cleared}
 use Rattle.book.specs.declared.Book.{Book}
 use Rattle.book.specs.declared.verdicts.Ruling.the-variants.{Refused}
 use Rattle.book.specs.Derived.{fieldWidth, slotCount}
+use Rattle.book.specs.Resting.{awake}
 use Rattle.book.specs.Record.{heldIn}
 use Rattle.book.specs.Sound.{Usable}
 use Rattle.book.specs.Calls.{addCall, verdictCall}
-use Rattle.book.proofs.Promises.{book-lent, opened-sound, added-usable, add-taken, verdict-taken, verdict-long}
+use Rattle.book.proofs.Promises.{book-lent, opened-sound, added-usable, marked-usable, add-taken, verdict-taken, verdict-long}
 use Rattle.demands.specs.History.{Good}
 use Rattle.demands.proofs.Invariant.{Invariant}
-use Rattle.demands.proofs.InvariantKept.{opened-keeps, added-keeps}
+use Rattle.demands.proofs.InvariantKept.{opened-keeps, added-keeps, marked-keeps}
 use Rattle.demands.proofs.GoodInduction.{good-induction}
 
 pub good-invariant : (book : Book) (ring items : List ℕ) → Good book ring items → Invariant book (heldIn book ring) items
@@ -25,6 +26,7 @@ good-invariant =
     good-induction (λ book ring items. Invariant book (heldIn book ring) items)
     (λ bound n tolerance lent ranges room. opened-keeps bound n tolerance _ ranges)
     (λ book ring items item inv usable small. added-keeps book ring items inv item usable small .inv)
+    (λ book ring items mark inv. marked-keeps book _ items mark inv)
 
 pub good-usable : (book : Book) (ring items : List ℕ) → Good book ring items → Usable book (length ring)
 good-usable =
@@ -36,10 +38,11 @@ good-usable =
       room = rw (length-cleared (fieldWidth bound tolerance) (slotCount bound n tolerance) lent whole) room;
     }))
     (λ book ring items item before usable small. added-usable book ring item usable small)
+    (λ book ring items mark usable. marked-usable book (length ring) mark usable)
 
 module _ (book : Book) (ring items : List ℕ) (good : Good book ring items) where
-  pub item-taken : (item : ℕ) → item ≤ book .bound → refusalOf (addCall book ring item) ≡ 0
-  item-taken item small = add-taken book ring item (good-usable book ring items good) small
+  pub item-taken : (item : ℕ) → item ≤ book .bound → book .resting ≡ awake → refusalOf (addCall book ring item) ≡ 0
+  item-taken item small up = add-taken book ring item (good-usable book ring items good) small up
 
   module _ (window amount : ℕ) (some : 0 < window) (asked : 0 < amount) where
     -- refused with 5 while the window is longer than kept …

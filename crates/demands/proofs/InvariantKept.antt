@@ -1,4 +1,4 @@
--- Opening begins with the invariant, and adding keeps it.
+-- Opening begins with the invariant, and adding keeps it; and another mark changes nothing in it.
 -- Assumes nothing.
 use Prim.Native.Nat.{ℕ, zero, suc, _+_, _-_, _*_, _/_, _%_, _≤_, _<_, _^_, min}
 use native.Mathlib.Nat.{suc-mul, suc-add, div-add-mod, mod-lt, mul-comm, add-mul-div-left, zero-div, mul-le-mul-right}
@@ -12,10 +12,11 @@ use Rattle.ring.specs.Slot.{field, written}
 use Rattle.ring.specs.Newest.{slotBefore, newest}
 use Rattle.ring.proofs.Promises.{read-back, other-stays, newest-none, newest-more, newest-near, newest-far}
 use Rattle.book.specs.declared.Book.{Book}
+use Rattle.book.specs.Resting.{marked}
 use Rattle.book.specs.Record.{blockOf, slotsOf, widthOf, heldIn, opened}
 use Rattle.book.specs.Sound.{Ranges, Sound, Usable}
 use Rattle.book.specs.Adding.{carryWith, quotientOf, slotAfter, addedOpen, addedClosed, added, addedRing}
-use Rattle.book.proofs.Promises.{le-or-lt, slots-cover, book-lent, adding-cases, quotient-in, before-after, opened-sound, open-sound, closed-sound, closed-carry}
+use Rattle.book.proofs.Promises.{le-or-lt, slots-cover, book-lent, adding-cases, quotient-in, before-after, opened-sound, open-sound, closed-sound, closed-carry, marked-sound}
 use Rattle.demands.specs.History.{sumOf, trueTotal}
 use Rattle.demands.proofs.Invariant.{Invariant}
 
@@ -160,6 +161,20 @@ module _ (book : Book) (held : ℕ → ℕ) (items : List ℕ) (inv : Invariant 
           carried = closed-carried;
           blocks = closed-blocks;
         }
+
+-- another mark
+pub marked-keeps : (book : Book) (held : ℕ → ℕ) (items : List ℕ) (mark : ℕ) → Invariant book held items → Invariant (marked book mark) held items
+marked-keeps book held items mark inv =
+    record {
+      before = inv .before;
+      sound = marked-sound book mark (inv .sound);
+      long = inv .long;
+      falls = inv .falls;
+      slowly = inv .slowly;
+      totals = inv .totals;
+      carried = inv .carried;
+      blocks = inv .blocks;
+    }
 
 -- an item that is taken keeps the invariant, and `before` moves on by it
 pub record Moved (book : Book) (held : ℕ → ℕ) (items : List ℕ) (before : ℕ → ℕ) : Type 0 where

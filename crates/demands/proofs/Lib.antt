@@ -11,3 +11,4 @@ pub mod VerdictMeans
 pub mod Quotients
 pub mod RunFromOpening
 pub mod RunsKeepGood
+pub mod RestsKeepGood

@@ -21,7 +21,7 @@ use Rattle.demands.proofs.GoodUsable.{good-usable}
 -- where an item that is taken closes its block
 module _ (book : Book) (ring : List ℕ) (item : ℕ) (taken : refusalOf (addCall book ring item) ≡ 0) (closes : book .phase + 1 ≡ blockOf book) where
   known : Usable book (length ring) × (item ≤ book .bound)
-  known = add-known book ring item taken
+  known = let k = add-known book ring item taken in (k .0, k .1)
 
   -- the quotient is at most z
   pub quotient-at-most-z : quotientOf book item ≤ largestOf book

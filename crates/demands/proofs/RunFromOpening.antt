@@ -1,11 +1,11 @@
--- A run from an opening (promises 2.4, B.3): an opening begins one, and items that are accepted, and calls that are refused or only ask, go on
--- with it; it is a good book; and each number of its record and each byte of its ring is known.
+-- A run from an opening (promises 2.4, B.3): an opening begins one, and items that are accepted, resting and waking, and calls that are refused
+-- or only ask, go on with it; it is a good book; and each number of its record but the mark, and each byte of its ring, is known.
 -- Assumes nothing.
 use Prim.Native.Nat.{ℕ, zero, suc, _+_, _*_, _/_, _%_, _≤_, _<_, _^_, min}
 use native.Mathlib.Nat.{mod-eq-of-lt, div-eq-of-lt, mul-add-mod-self-left, mul-add-div, zero-mod, add-zero}
 use native.Mathlib.Omega.{arith}
 use mathlib.Core.List.{List, [], _∷_}
-use mathlib.Core.Logic.{_⊎_}
+use mathlib.Core.Logic.{_⊎_, inl, inr}
 use mathlib.Core.Path.{_≡_, refl, sym, ap, ap₂, subst, _∙_}
 use lib.ListN.{length, getD, drop}
 use Rattle.bits.specs.Row.{bits}
@@ -16,12 +16,13 @@ use Rattle.ring.proofs.Promises.{cleared-rest, cleared-tail, bytes-cleared, tai
 use Rattle.book.specs.declared.Book.{Book}
 use Rattle.book.specs.declared.Updated.{Updated}
 use Rattle.book.specs.Derived.{fieldWidth, slotCount}
+use Rattle.book.specs.Resting.{awake, atRest, marked}
 use Rattle.book.specs.Record.{blockOf, slotsOf, widthOf, bytesOf, heldIn, opened}
 use Rattle.book.specs.Sound.{Ranges, Usable}
 use Rattle.book.specs.Adding.{quotientOf, slotAfter, added, addedRing}
-use Rattle.book.specs.Calls.{openCall, addCall}
-use Rattle.book.proofs.Promises.{block-low, slots-low, book-lent, bytes-needed, open-known, open-gives, add-known, add-taken, add-gives, adding-cases, SameNumbers, added-same, quotient-in, slot-after-mod}
-use Rattle.demands.specs.History.{Upon, OnlyAsks, Good, start, adding, sumOf, older}
+use Rattle.book.specs.Calls.{openCall, addCall, markCall, restCall, wakeCall}
+use Rattle.book.proofs.Promises.{block-low, slots-low, book-lent, bytes-needed, open-known, open-gives, add-known, add-taken, add-gives, mark-taken, mark-gives, add-leaves-mark, adding-cases, SameNumbers, added-same, added-mark, quotient-in, slot-after-mod}
+use Rattle.demands.specs.History.{Upon, OnlyAsks, Good, start, adding, resting, sumOf, older}
 use Rattle.demands.specs.RunFromOpening.{replayed, replayedRing, UpTo, FromOpening, RecordFollows, RingFollows}
 use Rattle.demands.proofs.InvariantKept.{shifted, Moved, opened-keeps, added-keeps}
 use Rattle.demands.proofs.GoodInduction.{nothing-changes}
@@ -34,7 +35,13 @@ module _ (bound n tolerance : ℕ) (lent : List ℕ) where
   unfolding replayed replayedRing
   opening-begins e =
       let gives = open-gives bound n tolerance lent e in
-      record { opening-taken = e; items-small = tt; record-is = ap (λ (r : Updated). r .book) (gives .0); ring-is = gives .1 }
+      record {
+        opening-taken = e;
+        items-small = tt;
+        mark-set = inl (ap (λ (r : Updated). r .book .resting) (gives .0));
+        record-is = ap (λ (r : Updated). marked (r .book) awake) (gives .0);
+        ring-is = gives .1;
+      }
 
   replayed-same : (items : List ℕ) → SameNumbers (opened bound n tolerance) (replayed bound n tolerance items)
   unfolding replayed
@@ -48,23 +55,58 @@ module _ (bound n tolerance : ℕ) (lent : List ℕ) where
         tolerance-same = s .tolerance-same ∙ r .tolerance-same;
       }
 
+  -- a replay is awake
+  replayed-awake : (items : List ℕ) → replayed bound n tolerance items .resting ≡ awake
+  unfolding replayed
+  replayed-awake [] = refl
+  replayed-awake (item ∷ items) = added-mark (replayed bound n tolerance items) item ∙ replayed-awake items
+
+  -- so that what is a replay is one with its mark cleared too
+  replay-cleared : (items : List ℕ) {book : Book} → book ≡ replayed bound n tolerance items → marked book awake ≡ replayed bound n tolerance items
+  replay-cleared items {book} same = ap (λ (mark : ℕ). marked book mark) (sym (ap (λ (b : Book). b .resting) same ∙ replayed-awake items)) ∙ same
+
   module _ (book : Book) (ring items : List ℕ) (run : FromOpening bound n tolerance lent book ring items) where
+    -- the record of a run that is awake
+    when-awake : book .resting ≡ awake → book ≡ replayed bound n tolerance items
+    when-awake up = ap (λ (mark : ℕ). marked book mark) up ∙ run .record-is
+
     -- an item that is accepted goes on with it
     pub adding-goes-on : (item : ℕ) → refusalOf (addCall book ring item) ≡ 0
         → FromOpening bound n tolerance lent (resultOf (addCall book ring item) .book) (leftOf (addCall book ring item)) (item ∷ items)
     unfolding replayed replayedRing
     adding-goes-on item e =
         let gives = add-gives book ring item e in
+        let known = add-known book ring item e in
+        let plain = when-awake (known .2) in
         let small : item ≤ bound =
-        subst (λ b. item ≤ b) (ap (λ (b : Book). b .bound) (run .record-is) ∙ replayed-same items .bound-same) (add-known book ring item e .1) in
+        subst (λ b. item ≤ b) (ap (λ (b : Book). b .bound) plain ∙ replayed-same items .bound-same) (known .1) in
         record {
           opening-taken = run .opening-taken;
           items-small = (small, run .items-small);
-          record-is = ap (λ (r : Updated). r .book) (gives .0) ∙ ap (λ (b : Book). added b item) (run .record-is);
-          ring-is = gives .1 ∙ ap₂ (λ (b : Book) (r : List ℕ). addedRing b r item) (run .record-is) (run .ring-is);
+          mark-set = inl (add-leaves-mark book ring item ∙ known .2);
+          record-is = replay-cleared (item ∷ items) (ap (λ (r : Updated). r .book) (gives .0) ∙ ap (λ (b : Book). added b item) plain);
+          ring-is = gives .1 ∙ ap₂ (λ (b : Book) (r : List ℕ). addedRing b r item) plain (run .ring-is);
         }
 
-    -- and so does a call that is refused or only asks
+    -- so do resting and waking …
+    marking-goes-on : (mark : ℕ) → (mark ≡ awake) ⊎ (mark ≡ atRest) → refusalOf (markCall book mark) ≡ 0
+        → FromOpening bound n tolerance lent (resultOf (markCall book mark) .book) ring items
+    marking-goes-on mark set e =
+        record {
+          opening-taken = run .opening-taken;
+          items-small = run .items-small;
+          mark-set = rw (ap (λ (r : Updated). r .book .resting) (mark-gives book mark e)) set;
+          record-is = ap (λ (r : Updated). marked (r .book) awake) (mark-gives book mark e) ∙ run .record-is;
+          ring-is = run .ring-is;
+        }
+
+    pub resting-goes-on : refusalOf (restCall book) ≡ 0 → FromOpening bound n tolerance lent (resultOf (restCall book) .book) ring items
+    resting-goes-on = marking-goes-on atRest (inr refl)
+
+    pub waking-goes-on : refusalOf (wakeCall book) ≡ 0 → FromOpening bound n tolerance lent (resultOf (wakeCall book) .book) ring items
+    waking-goes-on = marking-goes-on awake (inl refl)
+
+    -- … and a call that is refused or only asks
     pub otherwise-goes-on : (call : Call Book (List ℕ)) → Upon book ring call → (refusalOf call ≡ 0 → ⊥) ⊎ OnlyAsks book ring call
         → FromOpening bound n tolerance lent (resultOf call) (leftOf call) items
     otherwise-goes-on call upon idle =
@@ -82,7 +124,7 @@ module _ (bound n tolerance : ℕ) (lent : List ℕ) where
         let book = replayed bound n tolerance items in
         let ring = replayedRing bound n tolerance lent items in
         let good = replay-good items (small .1) in
-        let taken = add-taken book ring item (good-usable book ring items good) (fits items item (small .0)) in
+        let taken = add-taken book ring item (good-usable book ring items good) (fits items item (small .0)) (replayed-awake items) in
         let gives = add-gives book ring item taken in
         rw (ap (λ (r : Updated). r .book) (gives .0), gives .1) at (adding book ring items good item taken)
       where
@@ -169,11 +211,14 @@ unfolding older sumOf
 older-none zero = refl
 older-none (suc i) = refl
 
-module _ (bound n tolerance : ℕ) (lent : List ℕ) (book : Book) (ring items : List ℕ) (run : FromOpening bound n tolerance lent book ring items) where
-  -- a run is a good book, so that demands 2 and 3 hold of it
-  pub run-good : Good book ring items
-  run-good = rw (run .record-is, run .ring-is) (replay-good bound n tolerance lent (run .opening-taken) items (run .items-small))
+-- a run whose record is the replay itself: what follows is said of such a run first, and with any mark then
+record Replay (bound n tolerance : ℕ) (lent : List ℕ) (book : Book) (ring items : List ℕ) : Type 0 where
+  opening-taken : refusalOf (openCall bound n tolerance lent) ≡ 0
+  items-small : UpTo bound items
+  record-is : book ≡ replayed bound n tolerance items
+  ring-is : ring ≡ replayedRing bound n tolerance lent items
 
+module _ (bound n tolerance : ℕ) (lent : List ℕ) (book : Book) (ring items : List ℕ) (run : Replay bound n tolerance lent book ring items) where
   ranges : Ranges bound n tolerance
   ranges = open-known bound n tolerance lent (run .opening-taken) .0
 
@@ -210,9 +255,9 @@ module _ (bound n tolerance : ℕ) (lent : List ℕ) (book : Book) (ring items :
       (let m = added-keeps b r l (h .inv) item usable small in
       record { inv = m .inv; before-is = λ i. m .before-is i ∙ older-more (h .inv .before) l item (h .before-is) i }))
 
-  -- promises 2.4, B.3: the record …
-  pub record-follows : RecordFollows bound n tolerance book items
-  record-follows =
+  -- its record …
+  replay-follows : RecordFollows bound n tolerance book items
+  replay-follows =
       let c : ℕ = blockOf book in
       let k = counted in
       let inv = moved .inv in
@@ -238,9 +283,9 @@ module _ (bound n tolerance : ℕ) (lent : List ℕ) (book : Book) (ring items :
             rw (sym (same .tolerance-same), sym (moved .before-is (book .phase)), sym (moved .before-is 0)) (inv .carried);
       }
 
-  -- … and the ring, which was lent as bytes
-  pub ring-follows : Bytes lent → RingFollows bound n tolerance lent book ring items
-  ring-follows bytes =
+  -- … and its ring, which was lent as bytes
+  replay-ring-follows : Bytes lent → RingFollows bound n tolerance lent book ring items
+  replay-ring-follows bytes =
       let whole = book-lent bound n tolerance (length lent) ranges (open-known bound n tolerance lent (run .opening-taken) .1) in
       let b = fieldWidth bound tolerance in
       let s = slotCount bound n tolerance in
@@ -259,3 +304,45 @@ module _ (bound n tolerance : ℕ) (lent : List ℕ) (book : Book) (ring items :
         tail-0 = rw (sym (same .bound-same), sym (same .length-same), sym (same .tolerance-same)) (behind .tail);
         rest-as-lent = rw (sym (same .bound-same), sym (same .length-same), sym (same .tolerance-same)) (behind .rest);
       }
+
+module _ (bound n tolerance : ℕ) (lent : List ℕ) (book : Book) (ring items : List ℕ) (run : FromOpening bound n tolerance lent book ring items) where
+  -- the record with the mark cleared
+  abbrev plain : Book
+  plain = marked book awake
+
+  replays : Replay bound n tolerance lent plain ring items
+  replays = record { opening-taken = run .opening-taken; items-small = run .items-small; record-is = run .record-is; ring-is = run .ring-is }
+
+  -- a run is a good book, so that demands 2 and 3 hold of it
+  pub run-good : Good book ring items
+  run-good = by (run .mark-set)
+    where
+      good : Good plain ring items
+      good = rw (run .record-is, run .ring-is) (replay-good bound n tolerance lent (run .opening-taken) items (run .items-small))
+
+      by : (book .resting ≡ awake) ⊎ (book .resting ≡ atRest) → Good book ring items
+      by (inl up) = subst (λ mark. Good (marked book mark) ring items) (sym up) good
+      by (inr down) =
+          let taken = mark-taken plain atRest (good-usable plain ring items good .sound) in
+          let rested = rw (ap (λ (r : Updated). r .book) (mark-gives plain atRest taken)) at (resting plain ring items good taken) in
+          subst (λ mark. Good (marked book mark) ring items) (sym down) rested
+
+  -- promises 2.4, B.3: the record …
+  pub record-follows : RecordFollows bound n tolerance book items
+  record-follows =
+      let f = replay-follows bound n tolerance lent plain ring items replays in
+      record {
+        bound-is = f .bound-is;
+        length-is = f .length-is;
+        tolerance-is = f .tolerance-is;
+        kept-is = f .kept-is;
+        phase-is = f .phase-is;
+        head-is = f .head-is;
+        carry-is = f .carry-is;
+      }
+
+  -- … and the ring, which was lent as bytes
+  pub ring-follows : Bytes lent → RingFollows bound n tolerance lent book ring items
+  ring-follows bytes =
+      let f = replay-ring-follows bound n tolerance lent plain ring items replays bytes in
+      record { block-in-its-slot = f .block-in-its-slot; tail-0 = f .tail-0; rest-as-lent = f .rest-as-lent }

@@ -7,6 +7,7 @@ use mathlib.Core.List.{List, _∷_}
 use mathlib.Core.Path.{_≡_}
 use Rattle.refusals.specs.Call.{refusalOf, resultOf, leftOf}
 use Rattle.book.specs.declared.Book.{Book}
+use Rattle.book.specs.Resting.{awake}
 use Rattle.book.specs.Calls.{addCall, runCall}
 use Rattle.book.specs.OneByOne.{OneByOne, none, first}
 use Rattle.book.specs.RunOfCounts.{anyAbove}
@@ -40,10 +41,10 @@ module _ (P : Book → List ℕ → List ℕ → Type 0)
       one-by-one-keeps book ring counts (resultOf (runCall book ring counts) .book) (leftOf (runCall book ring counts))
       (run-is-adding book ring counts taken) items p
 
--- GOOD BOOKS take every run of which no count is above L …
+-- GOOD BOOKS take, while they are awake, every run of which no count is above L …
 pub good-takes-run : (book : Book) (ring items : List ℕ) → Good book ring items → (counts : List ℕ) → anyAbove (book .bound) counts ≡ false
-    → refusalOf (runCall book ring counts) ≡ 0
-good-takes-run book ring items good counts small = run-taken book ring counts (good-usable book ring items good) small
+    → book .resting ≡ awake → refusalOf (runCall book ring counts) ≡ 0
+good-takes-run book ring items good counts small up = run-taken book ring counts (good-usable book ring items good) small up
 
 -- … and stay good
 pub run-keeps-good : (book : Book) (ring items : List ℕ) → Good book ring items → (counts : List ℕ) → refusalOf (runCall book ring counts) ≡ 0

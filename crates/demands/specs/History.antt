@@ -6,7 +6,7 @@ use mathlib.Core.Path.{_≡_}
 use lib.ListN.{take, drop}
 use Rattle.refusals.specs.Call.{Call, refusalOf, resultOf, leftOf}
 use Rattle.book.specs.declared.Book.{Book}
-use Rattle.book.specs.Calls.{openCall, addCall}
+use Rattle.book.specs.Calls.{openCall, addCall, restCall, wakeCall}
 
 -- A call upon a record and a ring, seen by the record that its caller goes on with: a refusal hands back the record as it came, and the
 -- ring was lent
@@ -19,13 +19,18 @@ abbrev pub OnlyAsks : Book → List ℕ → Call Book (List ℕ) → Type 0
 OnlyAsks book ring call = (call .given ≡ book) × (call .left ≡ ring)
 
 -- Good book ring items: the record and the ring as the last call left them, and all accepted items, the newest first.
--- It begins with an opening that is not refused, and goes on with items that are accepted, and with any call that is refused or only asks.
+-- It begins with an opening that is not refused, and goes on with items that are accepted, with resting and waking, which leave the ring and
+-- the items, and with any call that is refused or only asks.
 -- A run of counts needs no case of its own: it comes to its items, one by one.
 pub data Good : Book → List ℕ → List ℕ → Type 0 where
   start : (bound n tolerance : ℕ) (lent : List ℕ) → refusalOf (openCall bound n tolerance lent) ≡ 0
       → Good (resultOf (openCall bound n tolerance lent) .book) (leftOf (openCall bound n tolerance lent)) []
   adding : (book : Book) (ring items : List ℕ) → Good book ring items → (item : ℕ) → refusalOf (addCall book ring item) ≡ 0
       → Good (resultOf (addCall book ring item) .book) (leftOf (addCall book ring item)) (item ∷ items)
+  resting : (book : Book) (ring items : List ℕ) → Good book ring items → refusalOf (restCall book) ≡ 0
+      → Good (resultOf (restCall book) .book) ring items
+  waking : (book : Book) (ring items : List ℕ) → Good book ring items → refusalOf (wakeCall book) ≡ 0
+      → Good (resultOf (wakeCall book) .book) ring items
   otherwise : (book : Book) (ring items : List ℕ) → Good book ring items → (call : Call Book (List ℕ)) → Upon book ring call
       → (refusalOf call ≡ 0 → ⊥) ⊎ OnlyAsks book ring call → Good (resultOf call) (leftOf call) items
 

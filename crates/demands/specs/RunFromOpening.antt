@@ -1,7 +1,8 @@
--- A run from an opening: the accepted items added one after the other to the book that was opened, and nothing else that changes a book.
--- What holds of such runs alone stands here, apart from what every good book has.
+-- A run from an opening: the accepted items added one after the other to the book that was opened, and nothing else that changes a book but
+-- its mark. What holds of such runs alone stands here, apart from what every good book has; of the mark only that a call sets such a one.
 use Prim.Native.Nat.{ℕ, suc, _+_, _*_, _/_, _%_, _≤_, _<_, min}
 use mathlib.Core.List.{List, [], _∷_}
+use mathlib.Core.Logic.{_⊎_}
 use mathlib.Core.Path.{_≡_}
 use lib.ListN.{length, getD, drop}
 use Rattle.bits.specs.Row.{bits}
@@ -10,6 +11,7 @@ use Rattle.ring.specs.Slot.{cleared}
 use Rattle.ring.specs.Newest.{newest}
 use Rattle.book.specs.declared.Book.{Book}
 use Rattle.book.specs.Derived.{fieldWidth, slotCount, bytesNeeded}
+use Rattle.book.specs.Resting.{awake, atRest, marked}
 use Rattle.book.specs.Record.{blockOf, slotsOf, heldIn, opened}
 use Rattle.book.specs.Adding.{added, addedRing}
 use Rattle.book.specs.Calls.{openCall}
@@ -31,11 +33,13 @@ abbrev pub UpTo : ℕ → List ℕ → Type 0
 UpTo bound [] = Unit {0}
 UpTo bound (item ∷ older) = (item ≤ bound) × UpTo bound older
 
--- opened with L, n, D and this ring, and every number of the record and every byte of the ring follow from the items
+-- opened with L, n, D and this ring, and every number of the record but its mark, and every byte of the ring, follow from the items: with the
+-- mark cleared the record is the replay. The mark is one that opening, resting or waking sets
 pub record FromOpening (bound n tolerance : ℕ) (lent : List ℕ) (book : Book) (ring items : List ℕ) : Type 0 where
   pub opening-taken : refusalOf (openCall bound n tolerance lent) ≡ 0
   pub items-small : UpTo bound items
-  pub record-is : book ≡ replayed bound n tolerance items
+  pub mark-set : (book .resting ≡ awake) ⊎ (book .resting ≡ atRest)
+  pub record-is : marked book awake ≡ replayed bound n tolerance items
   pub ring-is : ring ≡ replayedRing bound n tolerance lent items
 
 -- L, n and D are those of the opening; kept is the smaller of n and the number of accepted items, and phase and head follow from that

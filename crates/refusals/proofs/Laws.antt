@@ -5,7 +5,7 @@ use native.Mathlib.Omega.{arith}
 use mathlib.Core.Bool.{Bool, true, false, not, cond, _&&_, _||_}
 use mathlib.Core.List.{List, [], _∷_, _++_}
 use mathlib.Core.Path.{_≡_, refl, sym, ap, _∙_}
-use borrow.Author.Tests.{le-ltb, ltb-false, eqb-false}
+use borrow.Author.Tests.{le-ltb, ltb-false, eqb-false, eqb-true}
 use lib.Dec.{T, ltb, eqb}
 use Rattle.refusals.specs.First.{Fault, _gives_, orElse, firstOf, unlessRefused, outside}
 
@@ -87,3 +87,20 @@ first-avoids k ((holds gives number) ∷ later) t e = by holds number (eqb numbe
     by false n false q s r rest = rest s r
     by true zero false q s r rest = rest s r
     by true (suc n) false q s r rest = eqb-false (suc n) (suc k) q r
+
+-- every fault of the list has the number k: a test that computes too
+abbrev pub only : ℕ → List Fault → Bool
+only k [] = true
+only k ((holds gives number) ∷ later) = eqb number k && only k later
+
+-- then the refusal is k, if there is one
+pub first-only : (k : ℕ) (faults : List Fault) → T (only k faults) → (firstOf faults ≡ 0 → ⊥) → firstOf faults ≡ k
+first-only k [] t some = absurd (some refl)
+first-only k ((holds gives number) ∷ later) t some = by holds number (eqb number k) refl t some (first-only k later)
+  where
+    by : (h : Bool) (n : ℕ) (b : Bool) → eqb n k ≡ b → T (b && only k later) → (firstOf ((h gives n) ∷ later) ≡ 0 → ⊥)
+        → (T (only k later) → (firstOf later ≡ 0 → ⊥) → firstOf later ≡ k) → firstOf ((h gives n) ∷ later) ≡ k
+    by h n false q s r rest = absurd s
+    by false n true q s r rest = rest s r
+    by true zero true q s r rest = rest s r
+    by true (suc n) true q s r rest = eqb-true (suc n) k q

@@ -65,6 +65,10 @@ pixelTooLarge = 15
 abbrev pub imagesDiffer : ℕ
 imagesDiffer = 16
 
--- 23: a buffer for a line has fewer than 96 bytes (17 to 22 are kept for requests)
+-- 17: the book rests
+abbrev pub bookRests : ℕ
+bookRests = 17
+
+-- 23: a buffer for a line has fewer than 96 bytes (18 to 22 are kept for requests)
 abbrev pub bufferTooShort : ℕ
 bufferTooShort = 23

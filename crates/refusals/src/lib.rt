@@ -32,5 +32,7 @@ pub const PIXEL_TOO_LARGE: u8 = 15;
 
 pub const IMAGES_DIFFER: u8 = 16;
 
-// 23: a buffer for a line has fewer than 96 bytes (17 to 22 are kept for requests).
+pub const BOOK_RESTS: u8 = 17;
+
+// 23: a buffer for a line has fewer than 96 bytes (18 to 22 are kept for requests).
 pub const BUFFER_TOO_SHORT: u8 = 23;

@@ -15,7 +15,7 @@ use Rattle.decimals.proofs.Digits.{decimal-20}
 use Rattle.rows.specs.declared.Scored.{Scored}
 use Rattle.rows.specs.declared.Scored.the-variants.{First, By}
 use Rattle.rows.specs.declared.Word.{Word}
-use Rattle.rows.specs.declared.Word.the-variants.{Early, Live, Frozen, Undecided}
+use Rattle.rows.specs.declared.Word.the-variants.{Early, Live, Frozen, Undecided, Resting}
 use Rattle.rows.specs.Ascii.{ascii}
 use Rattle.rows.specs.Row.{comma, lineEnd, fieldText, scoreText, wordText, rowText, refusedText, headText}
 use Rattle.rows.specs.Calls.{lineMost, lineCall}
@@ -41,6 +41,7 @@ word-fits Early = omega arith
 word-fits Live = omega arith
 word-fits Frozen = omega arith
 word-fits Undecided = omega arith
+word-fits Resting = omega arith
 
 -- four fields of 21 bytes at most, and a last one of 11: 95
 pub row-fits : (frame : ℕ) (scored : Scored) (kept total : ℕ) (word : Word) → frame < 2 ^ 64 → ScoreBelow (2 ^ 64) scored

@@ -4,7 +4,7 @@ use Prim.Native.Char.{code}
 use mathlib.Core.List.{List, [], _∷_, _++_}
 use Rattle.rows.specs.Ascii.{ascii}
 use Rattle.rows.specs.declared.Word.{Word}
-use Rattle.rows.specs.declared.Word.the-variants.{Early, Live, Frozen, Undecided}
+use Rattle.rows.specs.declared.Word.the-variants.{Early, Live, Frozen, Undecided, Resting}
 use Rattle.rows.specs.declared.Scored.{Scored}
 use Rattle.rows.specs.declared.Scored.the-variants.{First, By}
 use Rattle.decimals.specs.Decimal.{decimal}
@@ -32,12 +32,13 @@ unfoldable pub scoreText : Scored → List ℕ
 scoreText First = comma ∷ []
 scoreText (By score) = fieldText score
 
--- the last field, and the line's end
+-- the last field, and the line's end (no run of the program says `resting`: watch, `never-resting`)
 unfoldable pub wordText : Word → List ℕ
 wordText Early = ascii "early" ++ lineEnd
 wordText Live = ascii "live" ++ lineEnd
 wordText Frozen = ascii "frozen" ++ lineEnd
 wordText Undecided = ascii "undecided" ++ lineEnd
+wordText Resting = ascii "resting" ++ lineEnd
 
 -- frame number, score, kept, total, verdict
 unfoldable pub rowText : ℕ → Scored → ℕ → ℕ → Word → List ℕ

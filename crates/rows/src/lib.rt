@@ -25,6 +25,7 @@ pub enum Word {
     Live,
     Frozen,
     Undecided,
+    Resting,
 }
 
 // The score against the frame before; the first frame has none.

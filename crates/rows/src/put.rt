@@ -88,6 +88,7 @@ pub(crate) fn word(out: &mut [u8], at: usize, w: Word) -> usize
         Word::Live => return text(out, at, b"live\r\n"),
         Word::Frozen => return text(out, at, b"frozen\r\n"),
         Word::Undecided => return text(out, at, b"undecided\r\n"),
+        Word::Resting => return text(out, at, b"resting\r\n"),
     }
 }
 

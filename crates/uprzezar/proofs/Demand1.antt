@@ -18,7 +18,7 @@ use Rattle.book.specs.declared.Figure.{Figure}
 use Rattle.book.specs.declared.Window.{Window}
 use Rattle.book.specs.declared.shape.Shaped.{Shaped}
 use Rattle.book.specs.Shape.{shapeCall}
-use Rattle.book.specs.Calls.{openCall, addCall, runCall, totalCall, howFarCall, verdictCall}
+use Rattle.book.specs.Calls.{openCall, addCall, runCall, restCall, wakeCall, totalCall, howFarCall, verdictCall}
 use Rattle.book.proofs.Promises as book-calls
 use Rattle.image.specs.declared.Numbers.{Numbers}
 use Rattle.image.specs.Reading.{headerCall}
@@ -37,6 +37,8 @@ use Rattle.uprzezar.proofs.of_book.uprzezar_shape.Reads as shape-reads
 use Rattle.uprzezar.proofs.of_book.uprzezar_open.Reads as open-reads
 use Rattle.uprzezar.proofs.of_book.uprzezar_add.Reads as add-reads
 use Rattle.uprzezar.proofs.of_book.uprzezar_run.Reads as run-reads
+use Rattle.uprzezar.proofs.of_book.uprzezar_rest.Reads as rest-reads
+use Rattle.uprzezar.proofs.of_book.uprzezar_wake.Reads as wake-reads
 use Rattle.uprzezar.proofs.of_book.uprzezar_total.Reads as total-reads
 use Rattle.uprzezar.proofs.of_book.uprzezar_far.Reads as far-reads
 use Rattle.uprzezar.proofs.of_book.uprzezar_verdict.Reads as verdict-reads
@@ -61,10 +63,16 @@ module _ (κs : Lfts 1) where
       (λ a. sumCall (a .0) (a .1 .0) (now (a .1 .1 .0)) (a .1 .1 .1 .0) (a .1 .1 .1 .1 .0)) (λ (r : Answer). r .refusal)
   sum-promised = ring-calls.sum-promised κs
 
--- THE BOOK: its numbers, for which nothing is lent …
+-- THE BOOK: its numbers, resting and waking, for which nothing is lent …
 module _ (κs : Lfts 0) where
   pub shape-promised : Promised (shape-reads.Post κs) (λ r. r) (λ a e. tt) (λ a. shapeCall (a .0) (a .1 .0) (a .1 .1 .0)) (λ (r : Shaped). r .refusal)
   shape-promised = book-calls.derive-promised κs
+
+  pub rest-promised : Promised (rest-reads.Post κs) (λ r. r) (λ a e. tt) (λ a. restCall (a .0)) (λ (r : Updated). r .refusal)
+  rest-promised = book-calls.rest-promised κs
+
+  pub wake-promised : Promised (wake-reads.Post κs) (λ r. r) (λ a e. tt) (λ a. wakeCall (a .0)) (λ (r : Updated). r .refusal)
+  wake-promised = book-calls.wake-promised κs
 
 -- … the calls with a ring; the verdict is the book's verdict seen as numbers …
 module _ (κs : Lfts 1) where
@@ -88,7 +96,7 @@ module _ (κs : Lfts 1) where
       (λ a. seenAs asNumbers (verdictCall (a .0) (now (a .1 .0)) (a .1 .1 .0) (a .1 .1 .1 .0))) (λ (r : Ruled). r .refusal)
   verdict-promised =
       seen-promised _ _ _ asNumbers (λ a. verdictCall (a .0) (now (a .1 .0)) (a .1 .1 .0) (a .1 .1 .1 .0))
-      (λ a r e p. (p, book-calls.verdict-leaves _ _ _ _)) _ (λ a. book-calls.verdict-tells _ _ _ _ (λ verdict. refl) (λ number. refl))
+      (λ a r e p. (p, book-calls.verdict-leaves _ _ _ _)) _ (λ a. book-calls.verdict-tells _ _ _ _ (λ notice. refl) (λ number. refl))
 
 -- … and a run of counts, for which they are lent beside the ring
 module _ (κs : Lfts 2) where

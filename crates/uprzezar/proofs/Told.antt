@@ -5,7 +5,7 @@ use mathlib.Core.List.{List}
 use mathlib.Core.Path.{_≡_, refl}
 use lib.ListN.{take, drop}
 use Rattle.book.specs.declared.verdicts.Verdict.{Verdict}
-use Rattle.book.specs.declared.verdicts.Verdict.the-variants.{Live, Frozen, Undecided}
+use Rattle.book.specs.declared.verdicts.Verdict.the-variants.{Live, Frozen, Undecided, Resting}
 use Rattle.book.specs.declared.verdicts.Ruling.{Ruling}
 use Rattle.book.specs.declared.verdicts.Ruling.the-variants.{Told, Refused}
 use Rattle.image.specs.Reading.{rasterIn}
@@ -14,9 +14,14 @@ use Rattle.uprzezar.specs.Crossing.{asNumbers, rasterPlace, verdictIn}
 pub place-is-raster : (s : List ℕ) → take (rasterPlace s .length) (drop (rasterPlace s .offset) s) ≡ rasterIn s
 place-is-raster s = refl
 
--- nothing is lost: the answer can be read back
+told-back : (window : ℕ) (verdict : Verdict) → let ruling = Told (record { window = window; verdict = verdict }) in
+    verdictIn (asNumbers ruling) (asNumbers ruling .verdict) ≡ ruling
+told-back window (Live figure) = refl
+told-back window (Frozen figure) = refl
+told-back window (Undecided figure) = refl
+told-back window (Resting figure) = refl
+
+-- nothing is lost: the answer can be read back, its window too
 pub read-back : (ruling : Ruling) → verdictIn (asNumbers ruling) (asNumbers ruling .verdict) ≡ ruling
-read-back (Told (Live figure)) = refl
-read-back (Told (Frozen figure)) = refl
-read-back (Told (Undecided figure)) = refl
+read-back (Told notice) = told-back (notice .window) (notice .verdict)
 read-back (Refused refusal) = refl

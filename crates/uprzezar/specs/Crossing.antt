@@ -1,25 +1,33 @@
--- The two answers that do not cross to C as they are: a verdict crosses as numbers (SCOPE, Verdict), and a raster as its place in the lent bytes.
+-- The two answers that do not cross to C as they are: what the page is told crosses as numbers (SCOPE, Verdict and Dark hours), and a raster as its
+-- place in the lent bytes.
 use Prim.Native.Nat.{ℕ, zero, suc, _-_}
 use mathlib.Core.List.{List}
-use Rattle.book.specs.declared.verdicts.Verdict.the-variants.{Live, Frozen, Undecided}
+use Rattle.book.specs.declared.verdicts.Verdict.{Verdict}
+use Rattle.book.specs.declared.verdicts.Verdict.the-variants.{Live, Frozen, Undecided, Resting}
 use Rattle.book.specs.declared.verdicts.Ruling.{Ruling}
 use Rattle.book.specs.declared.verdicts.Ruling.the-variants.{Told, Refused}
-use Rattle.book.specs.Verdict.{refusalIn, rulingNumber, valueIn}
+use Rattle.book.specs.Verdict.{refusalIn, rulingNumber, windowIn, valueIn}
 use Rattle.image.specs.declared.Numbers.{Numbers}
 use Rattle.image.specs.Reading.{numbersOf}
 use Rattle.uprzezar.specs.declared.Ruled.{Ruled}
 use Rattle.uprzezar.specs.declared.Raster.{Raster}
 
--- the refusal, the verdict and its figure; numbers that there are not are 0
+-- the refusal, the verdict, the window and the figure; numbers that there are not are 0
 abbrev pub asNumbers : Ruling → Ruled
-asNumbers ruling = record { refusal = refusalIn ruling; verdict = rulingNumber ruling; figure = valueIn ruling }
+asNumbers ruling =
+    record { refusal = refusalIn ruling; verdict = rulingNumber ruling; window = windowIn ruling; figure = valueIn ruling }
 
--- the verdict that three numbers tell; a refusal is told by its own number
+-- a verdict with the window and the figure of four numbers
+abbrev pub toldWith : Ruled → (ℕ → Verdict) → Ruling
+toldWith told verdict = Told (record { window = told .window; verdict = verdict (told .figure) })
+
+-- the answer that four numbers tell, by the verdict's number; a refusal is told by its own
 abbrev pub verdictIn : Ruled → ℕ → Ruling
 verdictIn told zero = Refused (told .refusal)
-verdictIn told (suc zero) = Told (Live (told .figure))
-verdictIn told (suc (suc zero)) = Told (Frozen (told .figure))
-verdictIn told (suc (suc (suc other))) = Told (Undecided (told .figure))
+verdictIn told (suc zero) = toldWith told Live
+verdictIn told (suc (suc zero)) = toldWith told Frozen
+verdictIn told (suc (suc (suc zero))) = toldWith told Undecided
+verdictIn told (suc (suc (suc (suc other)))) = toldWith told Resting
 
 -- where the raster lies by the image's numbers: its first byte, and how many they are
 abbrev pub placeIn : Numbers → Raster

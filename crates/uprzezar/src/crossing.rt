@@ -3,6 +3,7 @@ ghost use mathlib.Core.Path.{_≡_};
 ghost use Rattle.book.specs.declared.verdicts.Ruling.the-variants.{Told};
 ghost use Rattle.uprzezar.specs.Crossing.{asNumbers};
 use crate::Ruled;
+use book::verdicts::Notice;
 use book::verdicts::Ruling;
 use book::verdicts::Verdict;
 
@@ -11,31 +12,35 @@ pub(crate) fn as_numbers(ruling: Ruling) -> Ruled
     ensures { λ r. ⌜ r ≡ asNumbers ruling ⌝ }
 {
     match ruling {
-        Ruling::Told(verdict) => verdict_as_numbers(verdict),
+        Ruling::Told(notice) => notice_as_numbers(notice),
         Ruling::Refused(refusal) => Ruled {
             refusal,
             verdict: 0,
+            window: 0,
             figure: 0,
         },
     }
 }
 
-fn verdict_as_numbers(verdict: Verdict) -> Ruled
-    ensures { λ r. ⌜ r ≡ asNumbers (Told verdict) ⌝ }
+fn notice_as_numbers(notice: Notice) -> Ruled
+    ensures { λ r. ⌜ r ≡ asNumbers (Told notice) ⌝ }
 {
+    let verdict = notice.verdict;
     match verdict {
-        Verdict::Live(figure) => told(1, figure),
-        Verdict::Frozen(figure) => told(2, figure),
-        Verdict::Undecided(figure) => told(3, figure),
+        Verdict::Live(figure) => told(1, notice.window, figure),
+        Verdict::Frozen(figure) => told(2, notice.window, figure),
+        Verdict::Undecided(figure) => told(3, notice.window, figure),
+        Verdict::Resting(figure) => told(4, notice.window, figure),
     }
 }
 
-fn told(verdict: u8, figure: u64) -> Ruled
-    ensures { λ r. ⌜ r ≡ record { refusal = 0; verdict = verdict; figure = figure } ⌝ }
+fn told(verdict: u8, window: u64, figure: u64) -> Ruled
+    ensures { λ r. ⌜ r ≡ record { refusal = 0; verdict = verdict; window = window; figure = figure } ⌝ }
 {
     Ruled {
         refusal: 0,
         verdict,
+        window,
         figure,
     }
 }

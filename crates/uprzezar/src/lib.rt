@@ -5,11 +5,13 @@ mod of_book;
 mod of_images;
 mod of_ring;
 
-// A verdict as numbers: the refusal, 0 for none; 1 live, 2 frozen, 3 undecided, 0 at a refusal; the figure, 0 at a refusal.
+// What the page is told, as numbers: the refusal, 0 for none; the verdict, 1 live, 2 frozen, 3 undecided, 4 resting; the window; the figure.
+// At a refusal all but the refusal are 0.
 #[repr(C)]
 pub struct Ruled {
     pub refusal: u8,
     pub verdict: u8,
+    pub window: u64,
     pub figure: u64,
 }
 

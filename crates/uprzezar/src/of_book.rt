@@ -1,7 +1,7 @@
 // The book's calls.
 ghost use mathlib.Core.Path.{_≡_};
 ghost use Rattle.refusals.specs.Call.{resultOf, leftOf};
-ghost use Rattle.book.specs.Calls.{openCall, addCall, runCall, totalCall, howFarCall, verdictCall};
+ghost use Rattle.book.specs.Calls.{openCall, addCall, runCall, restCall, wakeCall, totalCall, howFarCall, verdictCall};
 ghost use Rattle.book.specs.Shape.{shapeCall};
 ghost use Rattle.uprzezar.specs.Crossing.{asNumbers};
 use crate::Ruled;
@@ -45,6 +45,22 @@ pub extern "C" fn uprzezar_run(book: Book, ring: &mut [u8], counts: &[u64]) -> R
     book::run(book, ring, counts)
 }
 
+// Puts a book to rest: gives the record with its mark set.
+#[no_mangle]
+pub extern "C" fn uprzezar_rest(book: Book) -> Updated
+    ensures { λ r. ⌜ r ≡ resultOf (restCall book) ⌝ }
+{
+    book::rest(book)
+}
+
+// Wakes a book: gives the record with its mark cleared.
+#[no_mangle]
+pub extern "C" fn uprzezar_wake(book: Book) -> Updated
+    ensures { λ r. ⌜ r ≡ resultOf (wakeCall book) ⌝ }
+{
+    book::wake(book)
+}
+
 // The figure for the last `window` items.
 #[no_mangle]
 pub extern "C" fn uprzezar_total(book: Book, ring: &[u8], window: u64) -> Figure
@@ -61,7 +77,7 @@ pub extern "C" fn uprzezar_far(book: Book, ring: &[u8], amount: u64) -> Window
     book::how_far_back(book, ring, amount)
 }
 
-// The verdict for a window and an amount.
+// The verdict for a window and an amount, as the page is told it.
 #[no_mangle]
 pub extern "C" fn uprzezar_verdict(book: Book, ring: &[u8], window: u64, amount: u64) -> Ruled
     ensures { λ r. ⌜ r ≡ asNumbers (resultOf (verdictCall book (now (ring .entry)) window amount)) ⌝ }

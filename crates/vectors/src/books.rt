@@ -8,6 +8,7 @@ use crate::reading::row_in;
 use crate::text;
 use book::Book;
 use book::Updated;
+use book::verdicts::Notice;
 use book::verdicts::Ruling;
 use book::verdicts::Verdict;
 ghost use Rattle.io.specs.Counts.{Counts};
@@ -58,17 +59,17 @@ fn arguments(line: &[u8], ring: &mut [u8]) -> Asked
     }
 }
 
-// The record and the ring, behind what stands before them.
-fn record_and_ring(b: Book, ring: &[u8], out: &mut [u8], at: usize) -> usize {
-    let behind = text::record(out, at, b);
-    text::bytes(out, behind, ring)
+// The refusal and the record.
+fn refusal_and_record(r: Updated, out: &mut [u8]) -> usize {
+    let at = text::refusal(out, r.refusal);
+    let b = r.book;
+    text::record(out, at, b)
 }
 
 // The refusal, the record and the ring.
 fn updated(r: Updated, ring: &[u8], out: &mut [u8]) -> usize {
-    let at = text::refusal(out, r.refusal);
-    let b = r.book;
-    record_and_ring(b, ring, out, at)
+    let behind = refusal_and_record(r, out);
+    text::bytes(out, behind, ring)
 }
 
 // The refusal, then c, s, z, b and B.
@@ -100,7 +101,8 @@ fn ran(b: Book, ring: &mut [u8], counts: &[u64], out: &mut [u8]) -> usize {
     let at = text::refusal(out, r.refusal);
     let behind = text::next(out, at, r.place);
     let after = r.book;
-    record_and_ring(after, ring, out, behind)
+    let end = text::record(out, behind, after);
+    text::bytes(out, end, ring)
 }
 
 fn totalled(q: Asked, ring: &[u8], out: &mut [u8]) -> usize {
@@ -117,28 +119,43 @@ fn found(q: Asked, ring: &[u8], out: &mut [u8]) -> usize {
     text::next(out, at, r.window)
 }
 
+// The word of a verdict, behind the 0 for no refusal, and the figure.
+fn word_and_figure(word: &[u8], figure: u64, out: &mut [u8]) -> usize {
+    let at = text::word(out, 0, word);
+    text::next(out, at, figure)
+}
+
 fn told(v: Verdict, out: &mut [u8]) -> usize {
     match v {
         Verdict::Live(f) => {
-            let at = text::word(out, 0, b"0 live");
-            return text::next(out, at, f);
+            return word_and_figure(b"0 live", f, out);
         }
         Verdict::Frozen(f) => {
-            let at = text::word(out, 0, b"0 frozen");
-            return text::next(out, at, f);
+            return word_and_figure(b"0 frozen", f, out);
         }
         Verdict::Undecided(f) => {
-            let at = text::word(out, 0, b"0 undecided");
-            return text::next(out, at, f);
+            return word_and_figure(b"0 undecided", f, out);
+        }
+        Verdict::Resting(f) => {
+            return word_and_figure(b"0 resting", f, out);
         }
     }
+}
+
+// The answer has no window, so the verdict is told only if the notice is of the window that was asked for.
+fn noticed(n: Notice, window: u64, out: &mut [u8]) -> usize {
+    if n.window != window {
+        return 0;
+    }
+    let v = n.verdict;
+    told(v, out)
 }
 
 fn ruled(q: Asked, ring: &[u8], out: &mut [u8]) -> usize {
     let b = q.book;
     match book::verdict(b, ring, q.third, q.fourth) {
-        Ruling::Told(v) => {
-            return told(v, out);
+        Ruling::Told(n) => {
+            return noticed(n, q.third, out);
         }
         Ruling::Refused(refusal) => {
             let at = text::refusal(out, refusal);
@@ -180,6 +197,19 @@ fn run(line: &[u8], ring: &mut [u8], out: &mut [u8]) -> usize {
     0
 }
 
+// `record`, to be put to rest or else woken.
+fn mark(line: &[u8], rests: bool, out: &mut [u8]) -> usize {
+    let entry = record_in(line);
+    let b = entry.book;
+    if !entry.ok {
+        return 0;
+    }
+    if rests {
+        return refusal_and_record(book::rest(b), out);
+    }
+    refusal_and_record(book::wake(b), out)
+}
+
 fn called(line: &[u8], q: Asked, ring: &mut [u8], out: &mut [u8]) -> usize {
     if calls(line, b"add", 3) {
         return added(q, ring, out);
@@ -205,6 +235,12 @@ pub(crate) fn answer(line: &[u8], ring: &mut [u8], out: &mut [u8]) -> usize {
     }
     if calls(line, b"run", 3) {
         return run(line, ring, out);
+    }
+    if calls(line, b"rest", 1) {
+        return mark(line, true, out);
+    }
+    if calls(line, b"wake", 1) {
+        return mark(line, false, out);
     }
     let q = arguments(line, ring);
     let n = q.bytes;

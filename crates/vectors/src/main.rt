@@ -14,7 +14,7 @@ fn main() {
     let mut buf = [0u8; 524288];
     let mut first = [0u8; 32768];
     let mut second = [0u8; 32768];
-    // The longest answer: a refusal, a place, a record of seven numbers, 32,768 bytes as hex, and the line's end.
+    // The longest answer: a refusal, a place, a record of eight numbers, 32,768 bytes as hex, and the line's end.
     let mut out = [0u8; 65792];
     input::run(&mut buf, &mut first, &mut second, &mut out);
 }

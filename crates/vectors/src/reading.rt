@@ -93,7 +93,7 @@ pub(crate) fn number_or_0(line: &[u8], at: usize) -> Parsed {
     number_in(line, at)
 }
 
-// The record `L,n,D,R,p,kept,head` in the first field.
+// The record `L,n,D,R,p,kept,head,mark` in the first field.
 pub(crate) fn record_in(line: &[u8]) -> Entry {
     let text = field(line, 1);
     let l = number(part(text, b',', 0));
@@ -103,8 +103,17 @@ pub(crate) fn record_in(line: &[u8]) -> Entry {
     let p = number(part(text, b',', 4));
     let kept = number(part(text, b',', 5));
     let head = number(part(text, b',', 6));
+    let mark = number(part(text, b',', 7));
     Entry {
-        ok: count(text, b',') == 6 && l.ok && n.ok && d.ok && r.ok && p.ok && kept.ok && head.ok,
+        ok: count(text, b',') == 7
+            && l.ok
+            && n.ok
+            && d.ok
+            && r.ok
+            && p.ok
+            && kept.ok
+            && head.ok
+            && mark.ok,
         book: Book {
             bound: l.value,
             length: n.value,
@@ -113,6 +122,7 @@ pub(crate) fn record_in(line: &[u8]) -> Entry {
             phase: p.value,
             kept: kept.value,
             head: head.value,
+            resting: mark.value,
         },
     }
 }

@@ -75,7 +75,8 @@ pub(crate) fn record(out: &mut [u8], at: usize, b: Book) -> usize {
     let four = listed(out, three, b.carry);
     let five = listed(out, four, b.phase);
     let six = listed(out, five, b.kept);
-    listed(out, six, b.head)
+    let seven = listed(out, six, b.head);
+    listed(out, seven, b.resting)
 }
 
 // Bytes as hex behind a space, `-` for none.

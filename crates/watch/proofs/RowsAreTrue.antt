@@ -1,5 +1,6 @@
 -- In a run the book's items are the scores that the rows print, and nothing else; so every row is true of them (promises P.1, 2.3, 3.6): its
--- kept, its total, its verdict's word, and `early` exactly while fewer than 30 items are kept (SCOPE, Program).
+-- kept, its total, its verdict's word, and `early` exactly while fewer than 30 items are kept (SCOPE, Program). And the book is awake, so that no
+-- row says `resting`.
 -- Assumes nothing.
 use Prim.Native.Nat.{ℕ, _≤_, _<_}
 use native.Mathlib.Omega.{arith}
@@ -14,16 +15,16 @@ use Rattle.refusals.specs.Call.{refusalOf, resultOf, leftOf}
 use Rattle.book.specs.declared.Book.{Book}
 use Rattle.book.specs.declared.shape.Shape.{Shape}
 use Rattle.book.specs.declared.verdicts.Verdict.{Verdict}
-use Rattle.book.specs.declared.verdicts.Verdict.the-variants.{Live, Frozen, Undecided}
-use Rattle.book.specs.declared.verdicts.Ruling.the-variants.{Told}
+use Rattle.book.specs.declared.verdicts.Verdict.the-variants.{Live, Frozen, Undecided, Resting}
 use Rattle.book.specs.declared.verdicts.Ruling.the-variants as rulings
 use Rattle.book.specs.Derived.{bytesNeeded}
+use Rattle.book.specs.Resting.{awake}
 use Rattle.book.specs.Sound.{Ranges}
 use Rattle.book.specs.Calls.{addCall, totalCall, verdictCall}
-use Rattle.book.proofs.Promises.{open-taken, box-shape, le-or-lt}
+use Rattle.book.proofs.Promises.{open-taken, opening-awake, add-leaves-mark, box-shape, le-or-lt}
 use Rattle.demands.specs.History.{Good, trueTotal}
 use Rattle.demands.specs.Demand2.{TotalGiven}
-use Rattle.demands.specs.VerdictMeans.{VerdictMeans}
+use Rattle.demands.specs.VerdictMeans.{Says, VerdictMeans}
 use Rattle.demands.specs.RunFromOpening.{FromOpening, RecordFollows}
 use Rattle.demands.proofs.GoodUsable.{item-taken, verdict-5}
 use Rattle.demands.proofs.Demand2.{demand-2}
@@ -46,29 +47,32 @@ use Rattle.watch.proofs.Starting.{start-gives, start-leaves}
 use Rattle.watch.proofs.OutcomeCases.{lineOf, shown-cases, scoreOf, counted-cases, decided-cases, outcome-cases}
 use Rattle.watch.proofs.Streaming.{refused-no-row, wait-no-row, ends-no-row}
 
--- a book opened with the setting in the program's ring, whose items are these scores
+-- a book opened with the setting in the program's ring, whose items are these scores, and which is awake
 abbrev pub Scores : Book → List ℕ → List ℕ → Type 0
-Scores book ring scores = FromOpening setting.bound setting.length setting.tolerance noBytes book ring scores
+Scores book ring scores = FromOpening setting.bound setting.length setting.tolerance noBytes book ring scores × (book .resting ≡ awake)
 
 module _ (book : Book) (ring scores : List ℕ) (run : Scores book ring scores) where
   pub scores-good : Good book ring scores
-  scores-good = run-good setting.bound setting.length setting.tolerance noBytes book ring scores run
+  scores-good = run-good setting.bound setting.length setting.tolerance noBytes book ring scores (run .0)
 
   scores-follow : RecordFollows setting.bound setting.length setting.tolerance book scores
-  scores-follow = record-follows setting.bound setting.length setting.tolerance noBytes book ring scores run
+  scores-follow = record-follows setting.bound setting.length setting.tolerance noBytes book ring scores (run .0)
 
   -- a score is an item that it takes …
   pub score-taken : (last image : List ℕ) → refusalOf (addCall book ring (scoreOf last image .value)) ≡ 0
   score-taken last image =
       item-taken book ring scores scores-good (scoreOf last image .value)
-      (rw (scores-follow .bound-is) (score-le-bound setting.bound setting.allowance last image))
+      (rw (scores-follow .bound-is) (score-le-bound setting.bound setting.allowance last image)) (run .1)
 
   -- … and goes on with
   score-goes-on : (last image : List ℕ) → let call = addCall book ring (scoreOf last image .value) in
       Scores (resultOf call .book) (leftOf call) (scoreOf last image .value ∷ scores)
   score-goes-on last image =
-      adding-goes-on setting.bound setting.length setting.tolerance noBytes book ring scores run (scoreOf last image .value)
-      (score-taken last image)
+      let item = scoreOf last image .value in
+      let taken = score-taken last image in (
+        adding-goes-on setting.bound setting.length setting.tolerance noBytes book ring scores (run .0) item taken,
+        add-leaves-mark book ring item ∙ run .1,
+      )
 
 -- A ROW goes on with the book of the scores and its own, and says what that book says
 record GoesOn (scores ring : List ℕ) (line : Line) : Type 0 where
@@ -113,24 +117,28 @@ opens =
 
 first-opened : Scores (firstState .book) firstRing []
 first-opened =
-    rw (sym (ap (λ (s : Started). s .state .book) (start-gives noBytes)), sym (start-leaves noBytes))
-    (opening-begins setting.bound setting.length setting.tolerance noBytes opens)
+    rw (sym (ap (λ (s : Started). s .state .book) (start-gives noBytes)), sym (start-leaves noBytes)) (
+      opening-begins setting.bound setting.length setting.tolerance noBytes opens,
+      opening-awake setting.bound setting.length setting.tolerance noBytes,
+    )
 
--- AT EACH MOMENT of a run the book's items are the scores of its rows
+-- AT EACH MOMENT of a run the book's items are the scores of its rows, and the book is awake
 pub runs-from-opening : (input : List ℕ) (moment : Moment) → Runs input moment
     → FromOpening setting.bound setting.length setting.tolerance noBytes (moment .state .book) (moment .ring) (scoresOf (moment .lines))
+    × (moment .state .book .resting ≡ awake)
 runs-from-opening input moment begins = first-opened
 runs-from-opening input moment (reads before run piece unread split) = runs-from-opening input before run
 runs-from-opening input moment (turns before run line row) =
     row-goes-on (before .state) (before .ring) (before .last) (before .hand) false (scoresOf (before .lines)) line
     (runs-from-opening input before run) row .run
 
--- the words are four
+-- the words are five
 abbrev placeOf : Word → ℕ
 placeOf words.Early = 0
 placeOf words.Live = 1
 placeOf words.Frozen = 2
 placeOf words.Undecided = 3
+placeOf words.Resting = 4
 
 apart : (one two : Word) → T (not (eqb (placeOf one) (placeOf two))) → one ≡ two → ⊥
 apart one two differ e = by (eqb (placeOf one) (placeOf two)) (eq-eqb (placeOf one) (placeOf two) (ap placeOf e)) differ
@@ -139,17 +147,18 @@ apart one two differ e = by (eqb (placeOf one) (placeOf two)) (eq-eqb (placeOf o
     by true e t = t
     by false e t = let z : _≡_ {A = ℕ} 0 1 = cc in omega arith
 
--- what the word of a verdict that is told means
+-- what the word of a verdict that is told means while the book is awake
 record Means (word : Word) (scores : List ℕ) : Type 0 where
   not-early : word ≡ words.Early → ⊥
   live : word ≡ words.Live → setting.amount ≤ trueTotal setting.window scores
   frozen : word ≡ words.Frozen → trueTotal setting.window scores < setting.amount
+  not-at-rest : word ≡ words.Resting → ⊥
 
-word-means : (book : Book) (ring scores : List ℕ) → VerdictMeans book ring scores setting.window setting.amount
+word-means : (book : Book) (ring scores : List ℕ) → book .resting ≡ awake → VerdictMeans book ring setting.window setting.amount scores
     → Means (wordOf (resultOf (verdictCall book ring setting.window setting.amount))) scores
-word-means book ring scores means = by _ (means .told)
+word-means book ring scores up means = by _ (means .told)
   where
-    by : (verdict : Verdict) → resultOf (verdictCall book ring setting.window setting.amount) ≡ Told verdict
+    by : (verdict : Verdict) → Says book ring setting.window setting.amount verdict
         → Means (wordOf (resultOf (verdictCall book ring setting.window setting.amount))) scores
     by (Live figure) told =
         rw told
@@ -157,6 +166,7 @@ word-means book ring scores means = by _ (means .told)
           not-early = apart words.Live words.Early tt;
           live = λ e. means .live-holds figure told;
           frozen = λ e. absurd (apart words.Live words.Frozen tt e);
+          not-at-rest = apart words.Live words.Resting tt;
         })
     by (Frozen figure) told =
         rw told
@@ -164,6 +174,7 @@ word-means book ring scores means = by _ (means .told)
           not-early = apart words.Frozen words.Early tt;
           live = λ e. absurd (apart words.Frozen words.Live tt e);
           frozen = λ e. means .frozen-less figure told;
+          not-at-rest = apart words.Frozen words.Resting tt;
         })
     by (Undecided figure) told =
         rw told
@@ -171,7 +182,9 @@ word-means book ring scores means = by _ (means .told)
           not-early = apart words.Undecided words.Early tt;
           live = λ e. absurd (apart words.Undecided words.Live tt e);
           frozen = λ e. absurd (apart words.Undecided words.Frozen tt e);
+          not-at-rest = apart words.Undecided words.Resting tt;
         })
+    by (Resting figure) told = absurd (means .resting-only figure told up)
 
 -- WHATEVER a run has come to, of the next row
 module _ (input : List ℕ) (moment : Moment) (runs : Runs input moment) (over : Bool) (line : Line)
@@ -209,7 +222,7 @@ module _ (input : List ℕ) (moment : Moment) (runs : Runs input moment) (over :
   told : setting.window ≤ book .kept → Means (line .word) scores
   told many =
       rw (next .word-is)
-      (word-means book after scores (verdict-means book after scores good setting.window setting.amount (omega arith) (omega arith) many))
+      (word-means book after scores (next .run .1) (verdict-means book after scores good setting.window setting.amount (omega arith) (omega arith) many))
 
   pub early-no-more : setting.window ≤ book .kept → line .word ≡ words.Early → ⊥
   early-no-more many = told many .not-early
@@ -225,6 +238,7 @@ module _ (input : List ℕ) (moment : Moment) (runs : Runs input moment) (over :
         early-while = λ few. early-at-5 few .1;
         live = λ e. ⊎-elim (λ many. told many .live e) (λ few. absurd (apart words.Early words.Live tt (sym (early-at-5 few .1) ∙ e))) enough;
         frozen = λ e. ⊎-elim (λ many. told many .frozen e) (λ few. absurd (apart words.Early words.Frozen tt (sym (early-at-5 few .1) ∙ e))) enough;
+        never-resting = λ e. ⊎-elim (λ many. told many .not-at-rest e) (λ few. apart words.Early words.Resting tt (sym (early-at-5 few .1) ∙ e)) enough;
       }
     where
       enough : (setting.window ≤ book .kept) ⊎ (book .kept < setting.window)

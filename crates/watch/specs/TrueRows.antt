@@ -34,3 +34,5 @@ pub record TrueRow (scores : List ℕ) (line : Line) : Type 0 where
   -- `live` and `frozen` mean it of what truly changed over that window
   pub live : line .word ≡ words.Live → setting.amount ≤ trueTotal setting.window scores
   pub frozen : line .word ≡ words.Frozen → trueTotal setting.window scores < setting.amount
+  -- no row says `resting`
+  pub never-resting : line .word ≡ words.Resting → ⊥

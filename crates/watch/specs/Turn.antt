@@ -7,7 +7,8 @@ use lib.ListN.{length, take}
 use Rattle.refusals.specs.Numbers.{endsTooEarly}
 use Rattle.refusals.specs.First.{unlessRefused}
 use Rattle.refusals.specs.Call.{resultOf, leftOf}
-use Rattle.book.specs.declared.verdicts.Verdict.the-variants.{Live, Frozen, Undecided}
+use Rattle.book.specs.declared.verdicts.Verdict.{Verdict}
+use Rattle.book.specs.declared.verdicts.Verdict.the-variants.{Live, Frozen, Undecided, Resting}
 use Rattle.book.specs.declared.verdicts.Ruling.{Ruling}
 use Rattle.book.specs.declared.verdicts.Ruling.the-variants.{Told}
 use Rattle.book.specs.declared.verdicts.Ruling.the-variants as rulings
@@ -23,11 +24,16 @@ use Rattle.watch.specs.declared.Turn.{Turn}
 use Rattle.watch.specs.declared.Turn.the-variants.{Row, Refused, Ends, Wait}
 use Rattle.watch.specs.Setting as setting
 
--- the verdict's word, and `early` where it is refused
+-- the verdict's word …
+abbrev pub verdictWord : Verdict → Word
+verdictWord (Live figure) = words.Live
+verdictWord (Frozen figure) = words.Frozen
+verdictWord (Undecided figure) = words.Undecided
+verdictWord (Resting figure) = words.Resting
+
+-- … and `early` where it is refused
 abbrev pub wordOf : Ruling → Word
-wordOf (Told (Live figure)) = words.Live
-wordOf (Told (Frozen figure)) = words.Frozen
-wordOf (Told (Undecided figure)) = words.Undecided
+wordOf (Told notice) = verdictWord (notice .verdict)
 wordOf (rulings.Refused refusal) = words.Early
 
 -- the number of the next frame; a number of 64 bits ends at its largest

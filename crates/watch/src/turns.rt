@@ -3,7 +3,7 @@ ghost use mathlib.Core.Path.{_≡_};
 ghost use mathlib.Core.Bool.{not, _&&_};
 ghost use lib.Dec.{eqb};
 ghost use Rattle.refusals.specs.Numbers.{endsTooEarly};
-ghost use Rattle.watch.specs.Turn.{wordOf, frameAfter, shownOf, countedOf};
+ghost use Rattle.watch.specs.Turn.{verdictWord, wordOf, frameAfter, shownOf, countedOf};
 use crate::Line;
 use crate::State;
 use crate::Turn;
@@ -24,16 +24,27 @@ pub(crate) fn short_yet(refusal: u8, over: bool) -> bool
     refusal == ENDS_TOO_EARLY
 }
 
-// The word of a verdict, and `early` where there is none yet.
+// The word of a verdict. (No run of the program comes to `resting`.)
+fn verdict_word(verdict: Verdict) -> Word
+    ensures { λ r. ⌜ r ≡ verdictWord verdict ⌝ }
+{
+    match verdict {
+        Verdict::Live(_) => Word::Live,
+        Verdict::Frozen(_) => Word::Frozen,
+        Verdict::Undecided(_) => Word::Undecided,
+        Verdict::Resting(_) => Word::Resting,
+    }
+}
+
+// The word of an answer: `early` where there is no verdict yet.
 fn word_of(ruling: Ruling) -> Word
     ensures { λ r. ⌜ r ≡ wordOf ruling ⌝ }
 {
     match ruling {
-        Ruling::Told(verdict) => match verdict {
-            Verdict::Live(_) => Word::Live,
-            Verdict::Frozen(_) => Word::Frozen,
-            Verdict::Undecided(_) => Word::Undecided,
-        },
+        Ruling::Told(notice) => {
+            let verdict = notice.verdict;
+            verdict_word(verdict)
+        }
         Ruling::Refused(_) => Word::Early,
     }
 }

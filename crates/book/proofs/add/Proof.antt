@@ -14,20 +14,20 @@ use Rattle.book.proofs.add.Statement.{statement}
 use Rattle.book.proofs.add.Tie as tie
 
 -- once the book is judged
-module _ (c : tie.After-usable) where
+module _ (c : tie.After-takes) where
   abbrev start : tie.Start
   start = c .before .before .before
 
-  judged : JudgedFirst (start .args .book) (now (start .args .ring)) (c .usable .result) (itemFault (start .args .book) (start .args .item) ∷ [])
+  judged : JudgedFirst (start .args .book) (now (start .args .ring)) (c .takes .result) (itemFault (start .args .book) (start .args .item) ∷ [])
       (addCall (start .args .book) (now (start .args .ring)) (start .args .item))
   unfolding addCall
-  judged = judged-first _ _ _ _ refl (c .before .count .ensures) (c .usable .ensures)
+  judged = judged-first _ _ _ _ _ refl (c .before .count .ensures) (c .takes .ensures)
 
 count-requires : tie.Need-count-requires
 count-requires c κs = search needs
 
-usable-requires : tie.Need-usable-requires
-usable-requires c κs = search needs
+takes-requires : tie.Need-takes-requires
+takes-requires c κs = search needs
 
 returns : tie.Need-returns
 unfolding addCall
@@ -59,4 +59,4 @@ returns-3 c = let added = c .before .before in
 pub add-spec : {M : Type 1} → statement M
 add-spec =
     tie.close
-    (tie.spec count-requires usable-requires returns returns-2 add-requires same-length returns-3)
+    (tie.spec count-requires takes-requires returns returns-2 add-requires same-length returns-3)

@@ -27,7 +27,7 @@ module _ (c : tie.After-usable) where
   judged : JudgedFirst (start .args .book) (now (start .args .ring)) (c .usable .result)
       (zeroFault (start .args .amount) ∷ reachFault window ∷ []) (howFarCall (start .args .book) (now (start .args .ring)) (start .args .amount))
   unfolding howFarCall
-  judged = judged-first _ _ _ _ refl (c .before .count .ensures) (c .usable .ensures)
+  judged = judged-first _ _ _ _ _ refl (c .before .count .ensures) (c .usable .ensures)
 
 count-requires : tie.Need-count-requires
 count-requires c κs = search needs

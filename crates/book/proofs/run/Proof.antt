@@ -19,7 +19,7 @@ use Rattle.book.proofs.run.Statement.{statement}
 use Rattle.book.proofs.run.Tie as tie
 
 -- once the book is judged
-module _ (c : tie.After-usable) where
+module _ (c : tie.After-takes) where
   abbrev start : tie.Start
   start = c .before .before .before .before
 
@@ -29,17 +29,17 @@ module _ (c : tie.After-usable) where
   abbrev counts : List ℕ
   counts = now (start .args .counts)
 
-  judged : JudgedFirst book (now (start .args .ring)) (c .usable .result) (countsFault book counts ∷ [])
+  judged : JudgedFirst book (now (start .args .ring)) (c .takes .result) (countsFault book counts ∷ [])
       (runCall book (now (start .args .ring)) counts)
   unfolding runCall
-  judged = judged-first _ _ _ _ refl (c .before .count .ensures) (c .usable .ensures)
+  judged = judged-first _ _ _ _ _ refl (c .before .count .ensures) (c .takes .ensures)
 
 -- once all counts were looked at
 module _ (c : tie.After-place-above) where
   abbrev passed : tie.Else1
   passed = c .before
 
-  abbrev asked : tie.After-usable
+  abbrev asked : tie.After-takes
   asked = passed .before .before
 
 -- and none is above L
@@ -53,15 +53,15 @@ module _ (c : tie.Else2) where
 count-requires : tie.Need-count-requires
 count-requires c κs = search needs
 
-usable-requires : tie.Need-usable-requires
-usable-requires c κs = search needs
+takes-requires : tie.Need-takes-requires
+takes-requires c κs = search needs
 
 returns : tie.Need-returns
 unfolding runCall
 returns c = let p = c .before .before in
     let back = judged p .refused (c .if1 .taken) in
-    let nowhere = judged-no-place (book p) (p .before .count .result) (counts p) (p .usable .ensures .refusal-is) in
-    (ap (λ (place : ℕ). record { refusal = p .usable .result .refusal; place = place; book = book p }) (sym nowhere) ∙ back .0, back .1)
+    let nowhere = judged-no-place (book p) (p .before .count .result) (counts p) (p .takes .ensures .refusal-is) in
+    (ap (λ (place : ℕ). record { refusal = p .takes .result .refusal; place = place; book = book p }) (sym nowhere) ∙ back .0, back .1)
 
 place-above-requires : tie.Need-place-above-requires
 place-above-requires c κs = judged (c .before .before) .ready (c .if1 .left) .usable .sound .ranges .bound-high
@@ -93,7 +93,7 @@ run-spec =
     tie.close
     (tie.spec
     count-requires
-    usable-requires
+    takes-requires
     returns
     place-above-requires
     returns-2

@@ -19,7 +19,7 @@ start c = c .before .before .before
 judged : (c : tie.After-usable) → JudgedFirst (start c .args .book) (now (start c .args .ring)) (c .usable .result)
     (windowFault (start c .args .book) (start c .args .window) ∷ []) (totalCall (start c .args .book) (now (start c .args .ring)) (start c .args .window))
 unfolding totalCall
-judged c = judged-first _ _ _ _ refl (c .before .count .ensures) (c .usable .ensures)
+judged c = judged-first _ _ _ _ _ refl (c .before .count .ensures) (c .usable .ensures)
 
 count-requires : tie.Need-count-requires
 count-requires c κs = search needs

@@ -9,8 +9,9 @@ use mathlib.Core.Path.{_≡_, refl, ap, _∙_}
 use denote.Ref.{now}
 use lib.Dec.{eqb}
 use Rattle.refusals.specs.Numbers.{zeroAsked, windowTooLong}
+use Rattle.book.specs.declared.verdicts.Verdict.{Verdict}
 use Rattle.book.specs.declared.verdicts.Ruling.the-variants.{Told}
-use Rattle.book.specs.Verdict.{verdictOf}
+use Rattle.book.specs.Verdict.{verdictNow}
 use Rattle.book.specs.Calls.{zeroFault, windowFault, verdictCall}
 use Rattle.book.proofs.JudgedFirst.{JudgedFirst, judged-first}
 use Rattle.book.proofs.verdict.Statement.{statement}
@@ -23,7 +24,7 @@ judged : (c : tie.After-usable) → JudgedFirst (start c .args .book) (now (star
     (zeroFault (start c .args .amount) ∷ zeroFault (start c .args .window) ∷ windowFault (start c .args .book) (start c .args .window) ∷ [])
     (verdictCall (start c .args .book) (now (start c .args .ring)) (start c .args .window) (start c .args .amount))
 unfolding verdictCall
-judged c = judged-first _ _ _ _ refl (c .before .count .ensures) (c .usable .ensures)
+judged c = judged-first _ _ _ _ _ refl (c .before .count .ensures) (c .usable .ensures)
 
 -- once amount and window are passed
 module _ (c : tie.Else3) where
@@ -74,8 +75,8 @@ figure-of-requires : tie.Need-figure-of-requires
 figure-of-requires c κs = let p = c .before .before .before in
     (judged (asked p) .ready (first p .if1 .left), omega arith)
 
-rule-requires : tie.Need-rule-requires
-rule-requires c κs = let p = c .before .before .before .before in
+tell-requires : tie.Need-tell-requires
+tell-requires c κs = let p = c .before .before .before .before in
     judged (asked p) .ready (first p .if1 .left) .usable .sound .ranges .tolerance-low
 
 returns-5 : tie.Need-returns-5
@@ -83,7 +84,8 @@ unfolding verdictCall
 returns-5 c = let p = c .before .before .before .before .before in
     let a = start (asked p) .args in
     let short = le-ltb (a .book .kept) (a .window) (omega arith) in
-    ap Told (c .rule .ensures ∙ ap (verdictOf (a .book .tolerance) (a .amount)) (c .before .figure-of .ensures))
+    ap (λ (v : Verdict). Told (record { window = a .window; verdict = v }))
+    (c .tell .ensures ∙ ap (verdictNow (a .book) (a .amount)) (c .before .figure-of .ensures))
     ∙ judged (asked p) .taken (first p .if1 .left) (rw (some-amount p, some-window p, short)) .0
 
 pub verdict-spec : {M : Type 1} → statement M
@@ -97,5 +99,5 @@ verdict-spec =
     returns-3
     returns-4
     figure-of-requires
-    rule-requires
+    tell-requires
     returns-5)

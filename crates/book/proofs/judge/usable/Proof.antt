@@ -1,75 +1,57 @@
--- `book::judge::usable` meets its contract: L, n and D are judged first, then the rest of the record, then the room.
+-- `book::judge::usable` meets its contract: the record is judged first, then the room.
 -- Assumes nothing.
 use borrow.Author.Needs.{needs}
-use Prim.Native.Nat.{ℕ, _≤_, _<_}
+use Prim.Native.Nat.{ℕ, _<_}
 use native.Mathlib.Omega.{arith}
-use mathlib.Core.Path.{_≡_, refl, sym, ap, _∙_}
+use mathlib.Core.List.{[]}
+use mathlib.Core.Path.{_≡_, sym, ap, _∙_}
 use Rattle.refusals.specs.First.{firstOf}
 use Rattle.book.specs.declared.Book.{Book}
 use Rattle.book.specs.declared.shape.Shape.{Shape}
-use Rattle.book.specs.Record.{shapeFor, bytesOf}
-use Rattle.book.specs.Sound.{Ranges}
-use Rattle.book.specs.Judged.{Judged}
-use Rattle.book.specs.Calls.{stateFaults, bookFaults}
-use Rattle.book.proofs.WhenTaken.{no-ranges, no-state, no-room, book-passes, usable-found, shape-refusal, shape-known}
+use Rattle.book.specs.Record.{bytesOf}
+use Rattle.book.specs.Calls.{recordFaults}
+use Rattle.book.proofs.JudgedFirst.{judged-refused}
+use Rattle.book.proofs.WhenTaken.{no-record, no-room, book-passes, usable-found}
 use Rattle.book.proofs.judge.usable.Statement.{statement}
 use Rattle.book.proofs.judge.usable.Tie as tie
 
--- once L, n and D are passed: they are in their ranges, and the numbers are the book's
+-- once the record is passed: the numbers are the book's
 module _ (c : tie.Else1) where
-  abbrev judged : Book
-  judged = c .before .before .before .before .args .book
+  abbrev judged : tie.After-known
+  judged = c .before .before .before
 
-  known : Ranges (judged .bound) (judged .length) (judged .tolerance) × (c .before .before .before .derive .result .shape ≡ shapeFor judged)
-  known = shape-known (judged .bound) (judged .length) (judged .tolerance) (c .before .before .before .derive .ensures) (omega arith)
-
--- a refusal of a book is all that is judged then
-refused : (book : Book) (lent : ℕ) (shape : Shape) {n : ℕ} → n ≡ firstOf (bookFaults book lent) → (n ≡ 0 → ⊥)
-    → Judged book lent (record { refusal = n; shape = shape })
-refused book lent shape told ne = record { refusal-is = told; ready = λ e. absurd (ne e) }
-
--- once the rest of the record is passed too
-module _ (c : tie.Else2) where
-  abbrev first : tie.Else1
-  first = c .before .before
+  abbrev book : Book
+  book = judged .before .args .book
 
   abbrev lent : ℕ
-  lent = first .before .before .before .before .args .lent
+  lent = judged .before .args .lent
 
-  stated : firstOf (stateFaults (judged first)) ≡ 0
-  stated = sym (c .before .state .ensures) ∙ c .if2 .left
+  passed : firstOf (recordFaults book) ≡ 0
+  passed = sym (judged .known .ensures .refusal-is) ∙ c .if1 .left
 
-  bytes-is : first .before .before .before .derive .result .shape .bytes ≡ bytesOf (judged first)
-  bytes-is = ap (λ (s : Shape). s .bytes) (known first .1)
+  bytes-is : judged .known .result .shape .bytes ≡ bytesOf book
+  bytes-is = ap (λ (s : Shape). s .bytes) (judged .known .ensures .shape-is (c .if1 .left))
 
-derive-requires : tie.Need-derive-requires
-derive-requires c κs = search needs
+known-requires : tie.Need-known-requires
+known-requires c κs = search needs
 
 returns : tie.Need-returns
-returns c = let s = c .before .before .before .before in
-    let b = s .args .book in
-    let told = shape-refusal (b .bound) (b .length) (b .tolerance) (c .before .before .before .derive .ensures) in
-    refused b (s .args .lent) (c .before .before .before .derive .result .shape) (no-ranges b (s .args .lent) told (λ e. omega arith)) (λ e. omega arith)
-
-state-requires : tie.Need-state-requires
-state-requires c κs = known c
+returns c = let k = c .before .before .before in
+    let s = k .before .args in
+    judged-refused (s .book) (s .lent) [] (k .known .result) (no-record (s .book) (s .lent) (k .known .ensures .refusal-is) (c .if1 .taken)) (c .if1 .taken)
 
 returns-2 : tie.Need-returns-2
 returns-2 c = let p = c .before .before in
-    let s = p .before .before .before .before in
-    refused (judged p) (s .args .lent) (p .before .before .before .derive .result .shape) (no-state (judged p) (s .args .lent) (known p .0) (c .before .state .ensures) (c .if2 .taken)) (c .if2 .taken)
+    let short : lent p < bytesOf (book p) = omega (arith, bytes-is p) in
+    judged-refused (book p) (lent p) [] _ (no-room (book p) (lent p) (passed p) short) (λ e. omega arith)
 
 returns-3 : tie.Need-returns-3
 returns-3 c = let p = c .before .before in
-    let short : lent p < bytesOf (judged (first p)) = omega (arith, bytes-is p) in
-    refused (judged (first p)) (lent p) (first p .before .before .before .derive .result .shape) (no-room (judged (first p)) (lent p) (known (first p) .0) (stated p) short) (λ e. omega arith)
-
-returns-4 : tie.Need-returns-4
-returns-4 c = let p = c .before .before in
-    let b = judged (first p) in
-    let passes = book-passes b (lent p) (known (first p) .0) (stated p) (omega (arith, bytes-is p)) in
-    record { refusal-is = passes; ready = λ e. record { usable = usable-found b (lent p) passes; shape-is = known (first p) .1 } }
+    let passes = book-passes (book p) (lent p) (passed p) (omega (arith, bytes-is p)) in
+    record {
+      refusal-is = p .if1 .left ∙ passes;
+      ready = λ e. record { usable = usable-found (book p) (lent p) passes; shape-is = judged p .known .ensures .shape-is e };
+    }
 
 pub usable-spec : {M : Type 1} → statement M
-usable-spec =
-    tie.close (tie.spec derive-requires returns state-requires returns-2 returns-3 returns-4)
+usable-spec = tie.close (tie.spec known-requires returns returns-2 returns-3)

@@ -1,4 +1,4 @@
--- `rows::put::word` meets its contract: it goes by the four cases.
+-- `rows::put::word` meets its contract: it goes by the five cases.
 -- Assumes nothing.
 use borrow.Author.Needs.{needs}
 use Rattle.rows.specs.Row.{wordText}
@@ -73,6 +73,23 @@ unfolding wordText
 returns-4 c = let wrote = c .before .before in
     rw (wrote .before .before .before .enum-told4 .given .1) (wrote .text4 .ensures)
 
+enum-told-5 : tie.Need-enum-told-5
+enum-told-5 c = search needs
+
+slice-aggregate-text-5 : tie.Need-slice-aggregate-text-5
+slice-aggregate-text-5 c = search needs
+
+text-requires-5 : tie.Need-text-requires-5
+text-requires-5 c κs = search needs
+
+same-length-5 : tie.Need-same-length-5
+same-length-5 c = search needs
+
+returns-5 : tie.Need-returns-5
+unfolding wordText
+returns-5 c = let wrote = c .before .before in
+    rw (wrote .before .before .before .enum-told5 .given .1) (wrote .text5 .ensures)
+
 pub word-spec : {M : Type 1} → statement M
 word-spec =
     tie.close
@@ -96,4 +113,9 @@ word-spec =
     slice-aggregate-text-4
     text-requires-4
     same-length-4
-    returns-4)
+    returns-4
+    enum-told-5
+    slice-aggregate-text-5
+    text-requires-5
+    same-length-5
+    returns-5)

@@ -1,8 +1,8 @@
--- `uprzezar::crossing::verdict_as_numbers` meets its contract: it goes by the cases of a verdict.
+-- `uprzezar::crossing::notice_as_numbers` meets its contract: it goes by the cases of the verdict.
 -- Assumes nothing.
 use borrow.Author.Needs.{needs}
-use Rattle.uprzezar.proofs.crossing.verdict_as_numbers.Statement.{statement}
-use Rattle.uprzezar.proofs.crossing.verdict_as_numbers.Tie as tie
+use Rattle.uprzezar.proofs.crossing.notice_as_numbers.Statement.{statement}
+use Rattle.uprzezar.proofs.crossing.notice_as_numbers.Tie as tie
 
 enum-known-verdict : tie.Need-enum-known-verdict
 enum-known-verdict c = search needs
@@ -22,6 +22,12 @@ enum-known-verdict-3 c = search needs
 told-requires-3 : tie.Need-told-requires-3
 told-requires-3 c κs = search needs
 
+enum-known-verdict-4 : tie.Need-enum-known-verdict-4
+enum-known-verdict-4 c = search needs
+
+told-requires-4 : tie.Need-told-requires-4
+told-requires-4 c κs = search needs
+
 returns : tie.Need-returns
 returns c = rw (c .before .before .verdict .given .1) (c .told .ensures)
 
@@ -31,8 +37,11 @@ returns-2 c = rw (c .before .before .verdict2 .given .1) (c .told2 .ensures)
 returns-3 : tie.Need-returns-3
 returns-3 c = rw (c .before .before .verdict3 .given .1) (c .told3 .ensures)
 
-pub verdict-as-numbers-spec : {M : Type 1} → statement M
-verdict-as-numbers-spec =
+returns-4 : tie.Need-returns-4
+returns-4 c = rw (c .before .before .verdict4 .given .1) (c .told4 .ensures)
+
+pub notice-as-numbers-spec : {M : Type 1} → statement M
+notice-as-numbers-spec =
     tie.close
     (tie.spec
     enum-known-verdict
@@ -41,6 +50,9 @@ verdict-as-numbers-spec =
     told-requires-2
     enum-known-verdict-3
     told-requires-3
+    enum-known-verdict-4
+    told-requires-4
     returns
     returns-2
-    returns-3)
+    returns-3
+    returns-4)
