@@ -5,21 +5,23 @@
  * and keeps nothing between calls.
  *
  * What you must keep:
- *   - a pointer and the length behind it name bytes, or counts of eight bytes each, that are yours to read for the whole call (and to
- *     write, where the pointer is not const); the pointer is not null, not even where the length is 0, and is aligned as its type asks;
+ *   - a pointer and the length behind it name bytes, counts of eight bytes each, or a row's entries of four bytes each, that are yours to
+ *     read for the whole call (and to write, where the pointer is not const); the pointer is not null, not even where the length is 0, and
+ *     is aligned as its type asks;
  *   - while a call runs, nobody else writes those bytes, and bytes lent for writing overlap no others that are lent to that call.
  *
- * What you may leave to us: everything else. Any number, any record, any ring bytes, any image and any length get an answer, and every
- * answer is proved to be the one that the library's definitions lay down (docs/SCOPE.md has them in words). A refusal comes as a number
- * above 0; then the other numbers of the answer are 0 (but for the place that comes with 7 of uprzezar_run), the record is handed back as
- * it came (opening hands back zeros), and no lent byte has changed. Where several refusals apply, the first in the order given at the
- * function is the one.
+ * What you may leave to us: everything else. Any number, any record, any ring bytes, any row, any image and any length get an answer, and
+ * every answer is proved to be the one that the library's definitions lay down (docs/SCOPE.md has them in words). A refusal comes as a
+ * number above 0; then the other numbers of the answer are 0 (but for the place that comes with 7 of uprzezar_run and uprzezar_run_row),
+ * the record is handed back as it came (opening hands back zeros), and no lent byte has changed. Where several refusals apply, the first
+ * in the order given at the function is the one.
  *
- * A book from a good start is one that uprzezar_open opened without a refusal; each call since has got the latest record, and the
- * ring as the last call left it, changed by nothing else (no call of the ring alone, no second book in it).
- * What is said below of true totals, and of what a window truly holds, holds for such a book, over the items that uprzezar_add and
- * uprzezar_run accepted.
+ * A book from a good start is one that uprzezar_open or uprzezar_open_row opened without a refusal; each call since has got the latest
+ * record, and the ring as the last call left it, changed by nothing else (no call of the ring alone, no second book in it).
+ * What is said below of true totals, and of what a window truly holds, holds for such a book, over the items that uprzezar_add,
+ * uprzezar_run, uprzezar_add_row and uprzezar_run_row accepted.
  * Any other record, or ring, still gets the one answer that is laid down for it; only, that answer says nothing of the items.
+ * A total by a row asks for more than a good start: "The book with a row" below says what.
  */
 #ifndef UPRZEZAR_H
 #define UPRZEZAR_H
@@ -51,7 +53,8 @@ enum {
     UPRZEZAR_ENDS_TOO_EARLY = 14,  /* the image goes on behind the bytes lent */
     UPRZEZAR_PIXEL_TOO_LARGE = 15, /* a pixel is above maxval */
     UPRZEZAR_IMAGES_DIFFER = 16,   /* the two images have not the same width, height and maxval */
-    UPRZEZAR_BOOK_RESTS = 17       /* the book rests, and takes no items */
+    UPRZEZAR_BOOK_RESTS = 17,      /* the book rests, and takes no items */
+    UPRZEZAR_ROW_TOO_SHORT = 18    /* the row has fewer entries than the ring has groups of 32 slots, a last part of a group counted too */
 };
 
 /* The verdicts. What they say of the window is for a book from a good start: the latest record, and a ring changed by nothing else. */
@@ -107,6 +110,15 @@ typedef struct {
     uint8_t refusal;
     uint64_t figure;
 } uprzezar_figure;
+
+/* A figure by a row, and how many reads of single fields of the ring, and of stored sums of the row, its rule makes; all three are 0 at a
+   refusal. */
+typedef struct {
+    uint8_t refusal;
+    uint64_t figure;
+    uint64_t fields; /* at most 64 */
+    uint64_t sums;   /* at most 3 */
+} uprzezar_summed;
 
 typedef struct {
     uint8_t refusal;
@@ -165,6 +177,8 @@ UPRZEZAR_ASSERT(sizeof(uprzezar_updated) == 72 && offsetof(uprzezar_updated, boo
 UPRZEZAR_ASSERT(sizeof(uprzezar_ran) == 80 && offsetof(uprzezar_ran, place) == 8, "ran");
 UPRZEZAR_ASSERT(offsetof(uprzezar_ran, book) == 16, "ran");
 UPRZEZAR_ASSERT(sizeof(uprzezar_figure) == 16 && offsetof(uprzezar_figure, figure) == 8, "figure");
+UPRZEZAR_ASSERT(sizeof(uprzezar_summed) == 32 && offsetof(uprzezar_summed, figure) == 8, "summed");
+UPRZEZAR_ASSERT(offsetof(uprzezar_summed, fields) == 16 && offsetof(uprzezar_summed, sums) == 24, "summed");
 UPRZEZAR_ASSERT(sizeof(uprzezar_window) == 16 && offsetof(uprzezar_window, window) == 8, "window");
 UPRZEZAR_ASSERT(sizeof(uprzezar_ruled) == 24 && offsetof(uprzezar_ruled, verdict) == 1, "ruled");
 UPRZEZAR_ASSERT(offsetof(uprzezar_ruled, window) == 8 && offsetof(uprzezar_ruled, figure) == 16, "ruled");
@@ -177,6 +191,9 @@ UPRZEZAR_ASSERT(offsetof(uprzezar_raster_place, length) == 16, "raster place");
 
 /* No book's ring takes more bytes. */
 #define UPRZEZAR_RING_MOST 8192
+
+/* No book's row takes more entries. */
+#define UPRZEZAR_ROW_MOST 128
 
 /* The book. */
 
@@ -199,8 +216,8 @@ uprzezar_updated uprzezar_add(uprzezar_book book, uint8_t *ring, size_t ring_byt
 uprzezar_ran uprzezar_run(uprzezar_book book, uint8_t *ring, size_t ring_bytes, const uint64_t *counts, size_t how_many);
 
 /* Puts a book to rest: sets `resting` to 1 and changes nothing else. Go on with the record that comes back: with it, and with the ring lent
-   whole, items and runs are refused with 17, the verdict is UPRZEZAR_RESTING where it is not refused, and totals and how far back answer as
-   before. The call may come twice. Refusals: 8. */
+   whole, items and runs are refused with 17 (with 18 where a row is too short), the verdict is UPRZEZAR_RESTING where it is not refused,
+   and totals and how far back answer as before. The call may come twice. Refusals: 8. */
 uprzezar_updated uprzezar_rest(uprzezar_book book);
 
 /* Wakes a book: sets `resting` to 0 and changes nothing else. Go on with the record that comes back. The call may come twice. Refusals: 8. */
@@ -218,6 +235,42 @@ uprzezar_window uprzezar_far(uprzezar_book book, const uint8_t *ring, size_t rin
 /* The verdict for a window and an amount, with the window and its figure. While the book rests it is UPRZEZAR_RESTING, whatever the amount:
    the refusals still come first, and window and figure still come with it. Refusals: 8, 4, 6, 5. */
 uprzezar_ruled uprzezar_verdict(uprzezar_book book, const uint8_t *ring, size_t ring_bytes, uint64_t window, uint64_t amount);
+
+/* The book with a row.
+
+   A row is numbers of 32 bits that you lend beside the ring, so that a total need not add up all its slots: one entry for each group of 32
+   slots, and one for what is left behind the last whole group. When the last slot of a group is written, the group's entry becomes what
+   slot 0 and all slots up to this one hold together. Lend (slots + 31) / 32 entries, with the slots that uprzezar_shape tells, or
+   UPRZEZAR_ROW_MOST, which are enough for every book; entries behind those that a book uses are never touched.
+
+   A row is KEPT beside its book if uprzezar_open_row opened the two; if each call with a row since was lent the row just as the call with a row
+   before it had left it, changed by nothing else; and if every item was taken by uprzezar_add_row or uprzezar_run_row (where uprzezar_add or
+   uprzezar_run took one, a sum may be missing, and nothing tells you so). Then, for a book from a good start, the figure of uprzezar_total_row is that of
+   uprzezar_total, whatever the window, and all that is said of the one holds of the other. For a row that holds other numbers, a written
+   rule (docs/SCOPE.md, Running sums) still fixes the answer; only, that answer says nothing of the items, and may be above their total.
+
+   How far back, the verdict, resting and waking have no call with a row: ask with record and ring as before. A row that was kept stays so. */
+
+/* Opens a book as uprzezar_open does, and clears the entries that the book uses. Refusals: 1, 2, 3, 4, 18. */
+uprzezar_updated uprzezar_open_row(uint64_t bound, uint64_t length, uint64_t tolerance, uint8_t *ring, size_t ring_bytes, uint32_t *row,
+                                   size_t row_entries);
+
+/* Adds one item: record and ring come out as by uprzezar_add. Where its block closes and the last slot of a group is written with it, the
+   group's entry becomes the sum of the ring's own fields up to there, whatever the row held; no other entry changes. Refusals: 8, 4, 18,
+   17, 7. */
+uprzezar_updated uprzezar_add_row(uprzezar_book book, uint8_t *ring, size_t ring_bytes, uint32_t *row, size_t row_entries, uint64_t item);
+
+/* Adds a run of counts, `how_many` of them: record, ring and row come out as by one uprzezar_add_row for each count in turn. All are taken or
+   none, and `place` is as with uprzezar_run; so is a run of no counts. Counts, ring and row do not overlap. Refusals: 8, 4, 18, 17, 7. */
+uprzezar_ran uprzezar_run_row(uprzezar_book book, uint8_t *ring, size_t ring_bytes, uint32_t *row, size_t row_entries,
+                              const uint64_t *counts, size_t how_many);
+
+/* The figure for the last `window` items by the row: that of uprzezar_total if the book is from a good start and the row is kept beside it
+   (above). Which fields of the ring and which sums of the row a written rule reads for it, the record and the window alone decide; how many
+   of each is told with it (the oldest slot's field is read by itself, and counts once more where it is among the others). A window within
+   the open block reads none. Refusals: 8, 4, 18, 5. */
+uprzezar_summed uprzezar_total_row(uprzezar_book book, const uint8_t *ring, size_t ring_bytes, const uint32_t *row, size_t row_entries,
+                                   uint64_t window);
 
 /* Images: binary PGM with maxval 1 to 65,535. Above maxval 255 each pixel is two bytes, the higher first; otherwise it is one.
 

@@ -1,6 +1,6 @@
 """How a call is written on a line, and numbers that calls are tried with."""
 
-from model import show
+from answers import show
 
 TOP = 2**64 - 1
 

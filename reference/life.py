@@ -1,6 +1,7 @@
 """A book that lives through calls."""
 
 import model
+import row_model
 from calls import call
 
 
@@ -31,3 +32,22 @@ class Life:
 
     def ask(self, name, *arguments):
         return call(name, self.record, self.ring, *arguments)
+
+
+class RowLife(Life):
+    """A life with a row: each line carries it too as the last one left it, and no item is taken without it."""
+
+    def __init__(self, L, n, D, ring, row):
+        self.lines = [call("open_row", L, n, D, ring, row)]
+        _, self.record, self.ring, self.row = row_model.open_row(L, n, D, ring, row)
+
+    def add(self, x):
+        self.lines.append(self.ask_row("add_row", x))
+        _, self.record, self.ring, self.row = row_model.add_row(self.record, self.ring, self.row, x)
+
+    def run(self, counts):
+        self.lines.append(self.ask_row("run_row", counts))
+        _, _, self.record, self.ring, self.row = row_model.run_row(self.record, self.ring, self.row, counts)
+
+    def ask_row(self, name, *arguments):
+        return call(name, self.record, self.ring, self.row, *arguments)

@@ -4,7 +4,7 @@
     python3 reference/make_vectors.py            writes both files, the same ones each time
     python3 reference/make_vectors.py --check    says whether they are the ones that stand there
 
-The answers come from model.py, which is written to docs/SCOPE.md alone and is first held to the figures of worked.py.
+The answers come from model.py and row_model.py, which are written to docs/SCOPE.md alone and are first held to the figures of worked.py.
 The calls stand in sections, each begun by a line `# NAME`; docs/PROMISES.md names them.
 It takes Python 3.9 or later, and no package.
 """
@@ -12,14 +12,18 @@ It takes Python 3.9 or later, and no package.
 import sys
 from pathlib import Path
 
+import answers
 import book_calls
 import comment_calls
 import image_calls
-import model
 import other_lines
 import paper_cases
 import rest_calls
 import ring_calls
+import row_calls
+import row_faults
+import row_lives
+import row_total_calls
 import run_calls
 import score_calls
 import two_byte_calls
@@ -31,8 +35,9 @@ HOME = Path(__file__).resolve().parent.parent / "crates" / "vectors"
 def sections():
     """Every section's name and calls, in order. Random ones have a seed each, so that a change in one leaves the others as they are."""
     yield "lines of the format", []
-    parts = (paper_cases, ring_calls, book_calls, run_calls, rest_calls, image_calls, comment_calls, two_byte_calls, score_calls, other_lines)
-    for part in parts:
+    of_books = (paper_cases, ring_calls, book_calls, run_calls, rest_calls, row_calls, row_lives, row_total_calls)
+    of_images = (image_calls, comment_calls, two_byte_calls, score_calls)
+    for part in (*of_books, *of_images, other_lines):
         yield from part.sections()
 
 
@@ -44,13 +49,13 @@ def lines():
 
 
 def main():
-    faults = [*worked.faults(), *run_calls.faults()]
+    faults = [*worked.faults(), *run_calls.faults(), *row_faults.faults()]
     faults += [f"no section is named {name}" for name in worked.FIGURES.keys() - dict(sections()).keys()]
     if faults:
         sys.exit("\n".join(faults))
     calls = list(lines())
     stdin = "".join(line + "\n" for line in calls)
-    stdout = "".join(model.answer(line) + "\n" for line in calls)
+    stdout = "".join(answers.answer(line) + "\n" for line in calls)
     if sys.argv[1:] == ["--check"]:
         same = (HOME / "stdin").read_bytes() == stdin.encode() and (HOME / "stdout").read_bytes() == stdout.encode()
         sys.exit(None if same else "the files differ from what this script makes")

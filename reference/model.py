@@ -1,6 +1,6 @@
-"""The calls of docs/SCOPE.md, in Python's whole numbers, written to its rules alone.
+"""The calls of docs/SCOPE.md, in Python's whole numbers, written to its rules alone; those with a row of sums are in row_model.py.
 
-Every call gives what its answer line holds, first the refusal number, 0 for none;
+Every call gives what its answer line holds (answers.py), first the refusal number, 0 for none;
 bytes and records that a call may change are given as they are afterwards. Nothing here is fast, and nothing is shared with the
 proved code: where the two differ, the rules decide which is wrong.
 """
@@ -246,16 +246,24 @@ def fields_of(r, ring):
     return newest_fields(field_width(r.L, r.D), s, ring, r.head, s)
 
 
-def figure(r, fields, i):
-    """The one figure of a window: j blocks, of whose oldest e items lie outside; g is that block's quotient."""
-    c = block_length(r.L, r.D)
+def blocks(r, fields, i):
+    """A window's j blocks, of whose oldest e items lie outside; g is that block's quotient."""
     if i <= r.p:
-        j, e, g = 0, r.p - i, r.R // r.D
-    else:
-        j = ceil_div(i - r.p, c)
-        e = j * c - (i - r.p)
-        g = fields[j - 1]
-    return max(0, r.R + r.D * sum(fields[:j]) - (r.D - 1) - e * r.L * g)
+        return 0, r.p - i, r.R // r.D
+    c = block_length(r.L, r.D)
+    j = ceil_div(i - r.p, c)
+    return j, j * c - (i - r.p), fields[j - 1]
+
+
+def figure_of(r, amount, e, g):
+    """The figure of a window whose j slots add up to this amount."""
+    return max(0, r.R + r.D * amount - (r.D - 1) - e * r.L * g)
+
+
+def figure(r, fields, i):
+    """The one figure of a window."""
+    j, e, g = blocks(r, fields, i)
+    return figure_of(r, sum(fields[:j]), e, g)
 
 
 def total(r, ring, i):
@@ -426,107 +434,3 @@ def score(L, a, first, second):
         return 16, 0
     maxval = one[2]
     return 0, min(L, changed(pixels(first[one[4] : one[3]], maxval), pixels(second[two[4] : two[3]], maxval), a, maxval))
-
-
-# --- lines ------------------------------------------------------------------------------------------------------------
-
-MOST_BYTES = 32768
-MOST_COUNTS = 16384
-# The program's own limit: a line that fills its buffer of 524,288 bytes cannot be read.
-LONGEST_LINE = 524287
-
-
-class Unreadable(Exception):
-    """A line that no call can be read from."""
-
-
-def take_number(text):
-    """Digits alone, leading zeros allowed, below 2^64."""
-    if not text or any(c not in "0123456789" for c in text):
-        raise Unreadable
-    digits = text.lstrip("0") or "0"
-    if len(digits) > 20 or int(digits) >= 2**64:
-        raise Unreadable
-    return int(digits)
-
-
-def take_byte(text):
-    """A score's allowance is a byte: no refusal is for a larger one, so the line cannot be read."""
-    value = take_number(text)
-    if value > 255:
-        raise Unreadable
-    return value
-
-
-def take_bytes(text):
-    """Lower-case hex, two digits a byte, `-` for none; more than 32,768 bytes are not taken."""
-    if text == "-":
-        return b""
-    if not text or len(text) % 2 or len(text) > 2 * MOST_BYTES or any(c not in "0123456789abcdef" for c in text):
-        raise Unreadable
-    return bytes.fromhex(text)
-
-
-def take_record(text):
-    numbers = [take_number(part) for part in text.split(",")]
-    if len(numbers) != len(Record._fields):
-        raise Unreadable
-    return Record(*numbers)
-
-
-def take_counts(text):
-    """Numbers joined by commas, `-` for none; more than 16,384 are not taken."""
-    if text == "-":
-        return []
-    counts = [take_number(part) for part in text.split(",")]
-    if len(counts) > MOST_COUNTS:
-        raise Unreadable
-    return counts
-
-
-def show(value):
-    if isinstance(value, bytes):
-        return value.hex() or "-"
-    if isinstance(value, list):
-        return ",".join(str(number) for number in value) or "-"
-    if isinstance(value, Record):
-        return ",".join(str(number) for number in value)
-    return str(value)
-
-
-N, Y, A, R, C = take_number, take_bytes, take_byte, take_record, take_counts
-
-CALLS = {
-    "ring_clear": (ring_clear, (N, N, Y)),
-    "ring_read": (ring_read, (N, N, Y, N)),
-    "ring_write": (ring_write, (N, N, Y, N, N)),
-    "ring_sum": (ring_sum, (N, N, Y, N, N)),
-    "open": (open_book, (N, N, N, Y)),
-    "add": (add, (R, Y, N)),
-    "run": (run, (R, Y, C)),
-    "rest": (rest, (R,)),
-    "wake": (wake, (R,)),
-    "total": (total, (R, Y, N)),
-    "far": (far, (R, Y, N)),
-    "verdict": (verdict, (R, Y, N, N)),
-    "pgm": (pgm, (Y,)),
-    "score": (score, (N, A, Y, Y)),
-    "shape": (shape, (N, N, N)),
-}
-
-
-def answer(line):
-    """The answer to one line, both without the line feed. A name is its own answer."""
-    if len(line) > LONGEST_LINE:
-        return "?"
-    if line.startswith("#"):
-        return line
-    fields = line.split(" ")
-    call, kinds = CALLS.get(fields[0], (None, ()))
-    if call is None or len(fields) != 1 + len(kinds):
-        return "?"
-    try:
-        arguments = [kind(text) for kind, text in zip(kinds, fields[1:])]
-    except Unreadable:
-        return "?"
-    return " ".join(show(value) for value in call(*arguments))

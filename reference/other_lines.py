@@ -1,7 +1,7 @@
 """Lines that are no calls, or hardly, by sections."""
 
+from answers import LONGEST_LINE
 from calls import TOP
-from model import LONGEST_LINE
 
 # Lines that no call can be read from, beside some that just can: names, spaces, hex, numbers, records, counts of fields.
 UNREADABLE = [

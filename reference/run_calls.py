@@ -3,10 +3,11 @@
 import random
 
 import model
+from answers import MOST_BYTES, MOST_NUMBERS
 from book_calls import any_book, changed_records, numbers_of_a_book
 from calls import TOP, call
 from life import Life
-from model import MOST_COUNTS, Record
+from model import Record
 from paper_cases import BOOK, ITEMS
 from worked import one_by_one
 
@@ -71,12 +72,12 @@ def laps(rng):
 def most_counts(rng):
     """As many as are taken: in blocks of one and of six; the last above L; of 20 digits each, behind the longest ring. And one more."""
     for L, n, D in ((9, 100, 4), (600, 1440, 3600)):
-        yield call("run", *opened(L, n, D), some_counts(rng, L, MOST_COUNTS))
-    yield call("run", *opened(9, 100, 4), some_counts(rng, 9, MOST_COUNTS - 1) + [TOP])
+        yield call("run", *opened(L, n, D), some_counts(rng, L, MOST_NUMBERS))
+    yield call("run", *opened(9, 100, 4), some_counts(rng, 9, MOST_NUMBERS - 1) + [TOP])
     record, ring = opened(5, 4096, 5 * 4096)
-    digits = ",".join(str(x).zfill(20) for x in some_counts(rng, 5, MOST_COUNTS))
-    yield call("run", record, ring.ljust(model.MOST_BYTES, b"\xa5")) + " " + digits
-    yield call("run", *opened(9, 100, 4), some_counts(rng, 9, MOST_COUNTS + 1))
+    digits = ",".join(str(x).zfill(20) for x in some_counts(rng, 5, MOST_NUMBERS))
+    yield call("run", record, ring.ljust(MOST_BYTES, b"\xa5")) + " " + digits
+    yield call("run", *opened(9, 100, 4), some_counts(rng, 9, MOST_NUMBERS + 1))
 
 
 def counts_above(L):

@@ -1,13 +1,19 @@
-"""Figures worked by hand, as calls and answers: the cases A to G of docs/SCOPE.md, slots of one bit, books at rest, comments in headers,
-pixels of two bytes, and the lines of the vectors' format.
+"""Figures worked by hand, as calls and answers: the cases A to G of docs/SCOPE.md, slots of one bit, books at rest, books with a row of sums,
+comments in headers, pixels of two bytes, and the lines of the vectors' format.
 
 The model is held to them each time the vectors are made. They stand first in the section of their name.
 """
 
+import answers
 import model
 
 A = "5,6,10,13,1,6,0,0 40"
 A_AT_REST = "5,6,10,13,1,6,0,1 40"
+# Record, ring and row: 33, 65 and 128 slots of one bit after so many items of 1, and then of 0.
+ONES_33 = "1,33,1,0,0,33,0,0 ffffffff80 32,33"
+ONES_33_AND_0 = "1,33,1,0,0,33,1,0 7fffffff80 32,33"
+ONES_65_AND_33_0S = "1,65,1,0,0,65,33,0 000000007fffffff80 0,64,65"
+ONES_95 = "1,128,1,0,0,95,95,0 fffffffffffffffffffffffe00000000 32,64,0,0"
 # The program's first two images, with comments of different places and lengths.
 DARK = b"P5 #c\n2 2 255\n" + bytes(4)
 LIT = b"P5# a longer one\r 2 2 255#\n\n" + bytes([20, 12, 13, 0])
@@ -132,6 +138,90 @@ FIGURES = {
         ("rest 5,6,10,13,1,6,0,18446744073709551615", "0 5,6,10,13,1,6,0,1"),
         ("rest 5,6,10,13,1,6,0,18446744073709551616", "?"),
         ("rest 5,6,10,13,1,6,0,1 40", "?"),
+    ],
+    # One number for 3 slots, three for 65; what is behind them stays. A row that is too short comes after a ring that is.
+    "row: openings": [
+        ("open_row 5 6 10 ff 4294967295,5", "0 5,6,10,0,0,0,0,0 00 0,5"),
+        ("open_row 1 65 1 ffffffffffffffffff 1,2,3,4", "0 1,65,1,0,0,0,0,0 000000000000000000 0,0,0,4"),
+        ("open_row 1 65 1 ffffffffffffffffff 1,2", "18 0,0,0,0,0,0,0,0 ffffffffffffffffff 1,2"),
+        ("open_row 1 64 1 ffffffffffffffff 1,2", "0 1,64,1,0,0,0,0,0 0000000000000000 0,0"),
+    ],
+    "row: bad openings": [
+        ("open_row 5 6 10 ff -", "18 0,0,0,0,0,0,0,0 ff -"),
+        ("open_row 5 6 10 - -", "4 0,0,0,0,0,0,0,0 - -"),
+        ("open_row 5 6 31 - -", "3 0,0,0,0,0,0,0,0 - -"),
+    ],
+    # The third block is noted in the last slot, and the sum 1 of all three goes into the row; the fourth is noted in slot 0, and the sum stays.
+    "row: case A": [
+        ("add_row 5,6,10,7,1,5,2,0 40 9,5 1", "0 5,6,10,8,0,6,0,0 40 1,5"),
+        ("add_row 5,6,10,8,0,6,0,0 40 1,5 5", f"0 {A} 1,5"),
+        (f"add_row {A} 1,5 2", "0 5,6,10,5,0,6,1,0 c0 1,5"),
+        (f"add_row {A} 1,5 6", f"7 {A} 1,5"),
+        ("run_row 5,6,10,0,0,0,0,0 00 9 3,4,5,5,0,1,5", f"0 0 {A} 1"),
+        *((f"total_row {A} 1 {i}", f"0 {read}") for i, read in enumerate(["0 0 0", "4 0 0", "4 2 0", "4 2 0", "9 3 0", "14 3 0", "14 1 1"])),
+        (f"total_row {A} 1 7", "5 0 0 0"),
+        ("total_row 5,6,10,5,0,6,1,0 c0 1 6", "0 16 4 0"),
+        # all three slots by the sum alone: 13 + 10 * sum - 9
+        *((f"total_row {A} {row} 6", f"0 {figure} 1 1") for row, figure in [(0, 4), (2, 24), (4294967295, 42949672954)]),
+    ],
+    "row: the order of refusals": [
+        ("add_row 5,6,10,15,1,6,0,1 - - 6", "8 5,6,10,15,1,6,0,1 - -"),
+        ("add_row 5,6,10,13,1,6,0,1 - - 6", "4 5,6,10,13,1,6,0,1 - -"),
+        (f"add_row {A_AT_REST} - 6", f"18 {A_AT_REST} -"),
+        (f"add_row {A_AT_REST} 1 6", f"17 {A_AT_REST} 1"),
+        (f"run_row {A_AT_REST} - 6", f"18 0 {A_AT_REST} -"),
+        (f"run_row {A_AT_REST} 1 -", f"17 0 {A_AT_REST} 1"),
+        (f"run_row {A} 1 2,6", f"7 2 {A} 1"),
+        (f"total_row {A} - 7", "18 0 0 0"),
+        (f"total_row {A_AT_REST} 1 6", "0 14 1 1"),
+    ],
+    # The sum that stands in the row is the last lap's 1 + 1: the slots of now, 0 and 1, are read one by one.
+    "row: items one by one, and a total after each": [
+        ("open_row 1 2 1 ff 9", "0 1,2,1,0,0,0,0,0 00 0"),
+        ("add_row 1,2,1,0,0,0,0,0 00 0 1", "0 1,2,1,0,0,1,1,0 80 0"),
+        ("add_row 1,2,1,0,0,1,1,0 80 0 1", "0 1,2,1,0,0,2,0,0 c0 2"),
+        ("total_row 1,2,1,0,0,2,0,0 c0 2 2", "0 2 1 1"),
+        ("total_row 1,2,1,0,0,2,0,0 c0 2 1", "0 1 2 0"),
+        ("add_row 1,2,1,0,0,2,0,0 c0 2 0", "0 1,2,1,0,0,2,1,0 40 2"),
+        ("total_row 1,2,1,0,0,2,1,0 40 2 2", "0 1 3 0"),
+        ("total_row 1,2,1,0,0,2,1,0 40 2 1", "0 0 2 0"),
+    ],
+    # Slot 31 ends a group and slot 32 does not, unless it is the last; what the row held before does not count.
+    "row: items around the ends of groups": [
+        ("add_row 1,65,1,0,0,31,31,0 fffffffe0000000000 9,9,9 1", "0 1,65,1,0,0,32,32,0 ffffffff0000000000 32,9,9"),
+        ("add_row 1,65,1,0,0,32,32,0 ffffffff0000000000 9,9,9 1", "0 1,65,1,0,0,33,33,0 ffffffff8000000000 9,9,9"),
+        ("add_row 1,33,1,0,0,32,32,0 ffffffff00 9,9 1", "0 1,33,1,0,0,33,0,0 ffffffff80 9,33"),
+        ("add_row 1,33,1,0,0,33,0,0 ffffffff80 32,33 0", f"0 {ONES_33_AND_0}"),
+    ],
+    "row: runs around the ends of groups": [
+        (f"run_row 1,33,1,0,0,0,0,0 0000000000 9,9 {','.join('1' * 33)}", f"0 0 {ONES_33}"),
+        (f"run_row {ONES_33} 0", f"0 0 {ONES_33_AND_0}"),
+        (f"run_row {ONES_33} -", f"0 0 {ONES_33}"),
+        (f"run_row {ONES_33} 0,2", f"7 2 {ONES_33}"),
+        (f"run_row 1,65,1,0,0,0,0,0 {'00' * 9} 9,9,9 {','.join('1' * 65 + '0' * 33)}", f"0 0 {ONES_65_AND_33_0S}"),
+    ],
+    # All slots by the last sum; slots 1 to 31 singly and 33 - 32 by the sums; slot 32, and slots 31 and 32. Then slot 0 is 0. Then slots 0 to 32
+    # are 0: slot 32 and slots 33 to 63 singly, 0 and 65 - 64 by the sums. Then slots 32 to 94 singly, or slots 31 and 64 to 94.
+    "row: totals, every window": [
+        *((f"total_row {ONES_33} {i}", f"0 {read}") for i, read in [(33, "33 1 1"), (32, "32 32 2"), (1, "1 2 0"), (2, "2 2 2"), (0, "0 0 0")]),
+        (f"total_row {ONES_33_AND_0} 33", "0 32 33 2"),
+        (f"total_row {ONES_65_AND_33_0S} 65", "0 32 33 3"),
+        *((f"total_row {ONES_95} {i}", f"0 {read}") for i, read in [(63, "63 64 0"), (64, "64 33 2")]),
+    ],
+    # Slots 31 and 32 of 33, of which slot 31 is 1, the sum being 1 + 2 - 5, below 0: what is left is 13 - 9, and with e = 1 also - 5.
+    "row: totals by rows of other numbers": [
+        ("total_row 5,66,10,13,1,66,0,0 0000000100 5,2 5", "0 4 2 2"),
+        ("total_row 5,66,10,13,1,66,0,0 0000000100 5,2 4", "0 0 2 2"),
+        ("total_row 5,66,10,13,1,66,0,0 0000000100 5,4 5", "0 4 2 2"),
+        ("total_row 5,66,10,13,1,66,0,0 0000000100 5,5 5", "0 14 2 2"),
+    ],
+    # 2^32 - 1 is the largest number of a row; a count has 64 bits.
+    "row: lines that cannot be read, and some that just can": [
+        (f"total_row {A} 4294967295 6", "0 42949672954 1 1"),
+        (f"total_row {A} 4294967296 6", "?"),
+        (f"total_row {A} 1,4294967296 6", "?"),
+        (f"total_row {A} 6", "?"),
+        (f"run_row {A} 1 4294967296", f"7 1 {A} 1"),
     ],
     # Rings all 1: the slots count, and nothing behind them; one byte is too short for 12. Then slots 4 to 7 and 12 are 1, of 13; and of 72 the
     # first and the last.
@@ -295,14 +385,14 @@ def with_rests(record, ring, items):
 def after(way, L, n, D, items):
     """The record and the ring of a book opened and given the items in this way, as they are written on a line."""
     _, record, ring = model.open_book(L, n, D, b"\xff" * model.book_bytes(L, n, D))
-    return " ".join(model.show(part) for part in way(record, ring, items))
+    return " ".join(answers.show(part) for part in way(record, ring, items))
 
 
 def faults():
     """What the model gets wrong of all this, in words; nothing, it is hoped."""
     for line, expected in (figure for figures in FIGURES.values() for figure in figures):
-        if model.answer(line) != expected:
-            yield f"{line}: the model answers {model.answer(line)}, worked by hand {expected}"
+        if answers.answer(line) != expected:
+            yield f"{line}: the model answers {answers.answer(line)}, worked by hand {expected}"
     for L, n, D, items, expected in LIVES:
         for way in (one_by_one, at_once, with_rests):
             if after(way, L, n, D, items) != expected:

@@ -1,9 +1,10 @@
-/* Case A of docs/SCOPE.md, through the header, item by item and as one run, its book at rest, the small pictures of its program, pictures of
-   two bytes a pixel, and headers with comments; the shapes of its book and of the box's. */
+/* Case A of docs/SCOPE.md, through the header, item by item and as one run, its book at rest and with a row, larger books with a row, the
+   small pictures of its program, pictures of two bytes a pixel, and headers with comments; the shapes of its book and of the box's. */
 #include "../include/uprzezar.h"
 
 #include <inttypes.h>
 #include <stdio.h>
+#include <string.h>
 
 static const char *word(uint8_t verdict) {
     static const char *const words[] = {"none", "live", "frozen", "undecided", "resting"};
@@ -137,6 +138,197 @@ static void rests(void) {
     state(uprzezar_add(b, ring, 1, 2), ring);
 }
 
+/* A book with a ring and a row, of which so many bytes and so many entries are lent. */
+typedef struct {
+    uprzezar_book book;
+    uint8_t ring[512];
+    size_t bytes;
+    uint32_t row[UPRZEZAR_ROW_MOST + 1];
+    size_t entries;
+} rowed;
+
+/* Opens it with a ring of ones and a row of ones, all of which is lent. */
+static void open_rowed(rowed *r, uint64_t bound, uint64_t length, uint64_t tolerance) {
+    r->bytes = sizeof r->ring;
+    r->entries = sizeof r->row / sizeof *r->row;
+    memset(r->ring, 0xff, sizeof r->ring);
+    memset(r->row, 0xff, sizeof r->row);
+    r->book = uprzezar_open_row(bound, length, tolerance, r->ring, r->bytes, r->row, r->entries).book;
+}
+
+/* The record, the ring's first byte and the row's first entries. */
+static void print_rowed(const char *call, uint8_t refusal, uint64_t place, uprzezar_book b, const rowed *r) {
+    size_t i;
+    printf("%s: refusal %u, place %" PRIu64 ": carry %" PRIu64 ", phase %" PRIu64 ", kept %" PRIu64 ", head %" PRIu64 ", ring %02x, row",
+           call, refusal, place, b.carry, b.phase, b.kept, b.head, r->ring[0]);
+    for (i = 0; i < 4; i++)
+        printf(" %" PRIu32, r->row[i]);
+    printf("\n");
+}
+
+static void open_row(rowed *r, uint64_t tolerance) {
+    uprzezar_updated a = uprzezar_open_row(5, 6, tolerance, r->ring, r->bytes, r->row, r->entries);
+    print_rowed("open_row", a.refusal, 0, a.book, r);
+    r->book = a.book;
+}
+
+static void add_row(rowed *r, uint64_t item) {
+    uprzezar_updated a = uprzezar_add_row(r->book, r->ring, r->bytes, r->row, r->entries, item);
+    print_rowed("add_row", a.refusal, 0, a.book, r);
+    r->book = a.book;
+}
+
+static void run_row(rowed *r, const uint64_t *counts, size_t how_many) {
+    uprzezar_ran a = uprzezar_run_row(r->book, r->ring, r->bytes, r->row, r->entries, counts, how_many);
+    print_rowed("run_row", a.refusal, a.place, a.book, r);
+    r->book = a.book;
+}
+
+static void total_row(const rowed *r, uint64_t window) {
+    uprzezar_summed a = uprzezar_total_row(r->book, r->ring, r->bytes, r->row, r->entries, window);
+    uprzezar_figure own = uprzezar_total(r->book, r->ring, r->bytes, window);
+    printf("window %" PRIu64 " by the row: refusal %u, figure %" PRIu64 ", fields %" PRIu64 ", sums %" PRIu64
+           "; without it: refusal %u, figure %" PRIu64 "\n",
+           window, a.refusal, a.figure, a.fields, a.sums, own.refusal, own.figure);
+}
+
+/* Case A, whose three slots are one group; of the row one entry is used. */
+static void row_of_case_a(void) {
+    static const uint64_t items[] = {3, 4, 5, 5, 0, 1, 5};
+    static const uint64_t more[] = {2, 5, 6, 7};
+    rowed r;
+    size_t i;
+    open_rowed(&r, 5, 6, 10);
+    r.entries = 1;
+    for (i = 0; i < sizeof items / sizeof *items; i++)
+        add_row(&r, items[i]);
+    for (i = 0; i <= 7; i++)
+        total_row(&r, i);
+    open_row(&r, 10);
+    run_row(&r, items, sizeof items / sizeof *items);
+    run_row(&r, more, 4);
+    run_row(&r, more, 0);
+    add_row(&r, 6);
+    add_row(&r, 2);
+    total_row(&r, 6);
+}
+
+/* Each call on one record, ring and row. */
+static void each_with_row(rowed *r) {
+    static const uint64_t counts[] = {2, 6};
+    add_row(r, 6);
+    run_row(r, counts, 2);
+    total_row(r, 7);
+}
+
+/* The order of the refusals: all of them hold at first, and then one less each time. */
+static void rows_refused(void) {
+    static const uint64_t items[] = {3, 4, 5, 5, 0, 1, 5};
+    rowed r;
+    uprzezar_book good;
+    open_rowed(&r, 5, 6, 10);
+    run_row(&r, items, sizeof items / sizeof *items);
+    good = uprzezar_rest(r.book).book;
+    r.book = good;
+    r.book.phase = 2;
+    r.bytes = 0;
+    r.entries = 0;
+    each_with_row(&r);
+    r.book = good;
+    each_with_row(&r);
+    r.bytes = 1;
+    each_with_row(&r);
+    r.entries = 1;
+    each_with_row(&r);
+    r.book = uprzezar_wake(good).book;
+    each_with_row(&r);
+    r.bytes = 0;
+    r.entries = 0;
+    open_row(&r, 31);
+    open_row(&r, 10);
+    r.bytes = 1;
+    open_row(&r, 10);
+}
+
+/* The row's entry is of the lap before: at window 2 it must not be read. */
+static void lap_before(void) {
+    static const uint64_t items[] = {1, 1, 0};
+    rowed r;
+    open_rowed(&r, 1, 2, 1);
+    run_row(&r, items, 3);
+    total_row(&r, 2);
+}
+
+/* Items up to the bound, without a short period. */
+static uint64_t item_at(uint64_t i, uint64_t bound) {
+    return i * i % 1009 % (bound + 1);
+}
+
+/* So many items with a row; then, over all windows, the largest answers, and how many figures are other than uprzezar_total's. */
+static void all_windows(uint64_t bound, uint64_t length, uint64_t tolerance, uint64_t items) {
+    uprzezar_summed most = {0, 0, 0, 0};
+    uint64_t i;
+    uint64_t others = 0;
+    rowed r;
+    open_rowed(&r, bound, length, tolerance);
+    for (i = 0; i < items; i++)
+        r.book = uprzezar_add_row(r.book, r.ring, r.bytes, r.row, r.entries, item_at(i, bound)).book;
+    print_rowed("after them", 0, 0, r.book, &r);
+    for (i = 0; i <= r.book.kept; i++) {
+        uprzezar_summed a = uprzezar_total_row(r.book, r.ring, r.bytes, r.row, r.entries, i);
+        most.figure = a.figure > most.figure ? a.figure : most.figure;
+        most.fields = a.fields > most.fields ? a.fields : most.fields;
+        most.sums = a.sums > most.sums ? a.sums : most.sums;
+        others += a.figure != uprzezar_total(r.book, r.ring, r.bytes, i).figure;
+    }
+    printf("bound %" PRIu64 ", length %" PRIu64 ", tolerance %" PRIu64 ", %" PRIu64 " items: at most figure %" PRIu64 ", fields %" PRIu64
+           ", sums %" PRIu64 "; other figures: %" PRIu64 "; the entry behind all: %" PRIu32 "\n",
+           bound, length, tolerance, items, most.figure, most.fields, most.sums, others, r.row[UPRZEZAR_ROW_MOST]);
+}
+
+/* Two windows with these numbers in the row, whatever its ring holds. */
+static void other_numbers(rowed *r, uint32_t first, uint32_t second, uint32_t third) {
+    r->row[0] = first;
+    r->row[1] = second;
+    r->row[2] = third;
+    total_row(r, 129);
+    total_row(r, 130);
+}
+
+/* 65 slots of two items: two whole groups and one of a single slot. */
+static void three_groups(void) {
+    static const uint64_t windows[] = {1, 2, 64, 73, 74, 75, 76, 129, 130};
+    uint64_t counts[205];
+    rowed r;
+    size_t i;
+    open_rowed(&r, 1, 130, 2);
+    for (i = 0; i < 205; i++)
+        counts[i] = item_at(i, 1);
+    r.entries = 2;
+    run_row(&r, counts, 205);
+    r.entries = 3;
+    run_row(&r, counts, 205);
+    for (i = 0; i < sizeof windows / sizeof *windows; i++)
+        total_row(&r, windows[i]);
+    /* the sum of the slots comes out below 0, which counts as 0 and leaves the carry; then above all that the ring could hold */
+    other_numbers(&r, 5, UINT32_MAX, 7);
+    other_numbers(&r, UINT32_MAX, 0, UINT32_MAX);
+    r.entries = 2;
+    total_row(&r, 130);
+    add_row(&r, 1);
+}
+
+static void rows(void) {
+    row_of_case_a();
+    rows_refused();
+    lap_before();
+    three_groups();
+    all_windows(1, 65, 1, 100);
+    all_windows(255, 200, 1, 297);
+    all_windows(1, 4096, 1, 4096);
+    all_windows(1, 4096, 1, 5983);
+}
+
 static void image(const uint8_t *bytes, size_t count) {
     uprzezar_numbers n = uprzezar_header(bytes, count);
     printf("image: refusal %u, %zu x %zu, maxval %zu, raster from %zu, used %zu\n", n.refusal, n.width, n.height, n.maxval, n.start,
@@ -197,6 +389,7 @@ int main(void) {
     book();
     runs();
     rests();
+    rows();
     pictures();
     two_bytes();
     comments();

@@ -34,16 +34,38 @@ const SETTINGS: [(&str, u64, u64, u64); 4] = [
 
 const RUN: u64 = 1000;
 
-/// A book that has taken more items than it keeps, one short of a full block.
-fn filled(bound: u64, length: u64, tolerance: u64) -> (Book, Vec<u8>) {
-    let mut chance = Chance::new(bound);
-    let mut ring = vec![0; 8192];
-    let mut book = Book::open(bound, length, tolerance, &mut ring).expect("a good setting");
-    let block = (tolerance / bound).max(1);
-    for _ in 0..length + length / 3 / block * block + block - 1 {
-        book.add(&mut ring, chance.below(bound + 1)).expect("an item within the bound");
+/// A book with its ring and its row, one item short of a full block.
+#[derive(Clone)]
+struct Filled {
+    book: Book,
+    ring: Vec<u8>,
+    row: Vec<u32>,
+}
+
+impl Filled {
+    /// It has taken as many items as it keeps, and so many blocks more.
+    fn new(bound: u64, length: u64, tolerance: u64, blocks: u64) -> Filled {
+        let mut chance = Chance::new(bound);
+        let (mut ring, mut row) = (vec![0; 8192], vec![0; 128]);
+        let mut book = Book::open_row(bound, length, tolerance, &mut ring, &mut row).expect("a good setting");
+        let block = (tolerance / bound).max(1);
+        for _ in 0..length + blocks * block + block - 1 {
+            book.add_row(&mut ring, &mut row, chance.below(bound + 1)).expect("an item within the bound");
+        }
+        Filled { book, ring, row }
     }
-    (book, ring)
+
+    /// More items than it keeps, by a third.
+    fn by_a_third(bound: u64, length: u64, tolerance: u64) -> Filled {
+        Filled::new(bound, length, tolerance, length / 3 / (tolerance / bound).max(1))
+    }
+
+    /// One item short of writing its last slot.
+    fn before_the_last_slot(bound: u64, length: u64, tolerance: u64) -> Filled {
+        let begun = Filled::new(bound, length, tolerance, 0).book.head;
+        let slots = Shape::of(bound, length, tolerance).expect("a good setting").slots as u64;
+        Filled::new(bound, length, tolerance, slots - 1 - begun)
+    }
 }
 
 /// The plain record as the library takes it.
@@ -121,7 +143,7 @@ fn shape_case(cases: &mut Vec<Case>, setting: &str, bound: u64, length: u64, tol
 }
 
 fn book_cases(cases: &mut Vec<Case>, setting: &str, bound: u64, length: u64, tolerance: u64) {
-    let (book, ring) = filled(bound, length, tolerance);
+    let Filled { book, ring, .. } = Filled::by_a_third(bound, length, tolerance);
     let record = crossed(book);
     let (a, b) = (ring.clone(), ring.clone());
     let (mut ring_a, mut ring_b) = (ring.clone(), ring.clone());
@@ -169,6 +191,63 @@ fn book_cases(cases: &mut Vec<Case>, setting: &str, bound: u64, length: u64, tol
     });
 }
 
+fn add_row_case(cases: &mut Vec<Case>, what: &str, filled: Filled) {
+    let item = filled.book.bound / 2 + 1;
+    let (mut a, mut b) = (filled.clone(), filled);
+    cases.push(Case {
+        name: format!("add with a row that {what}"),
+        plain: repeated(move || {
+            let mut next = black_box(a.book);
+            (next.add_row(&mut a.ring, &mut a.row, black_box(item)), next)
+        }),
+        proved: repeated(move || proved::add_row(black_box(crossed(b.book)), &mut b.ring, &mut b.row, black_box(item))),
+    });
+}
+
+fn run_row_case(cases: &mut Vec<Case>, setting: &str, filled: Filled) {
+    let bound = filled.book.bound;
+    let counts: Vec<u64> = (0..RUN).map(|i| i * 7919 % (bound + 1)).collect();
+    let (mut a, mut b) = (filled.clone(), filled);
+    let counts_a = counts.clone();
+    cases.push(Case {
+        name: format!("1,000 counts in one call with a row on both sides, {setting}"),
+        plain: repeated(move || {
+            let mut next = black_box(a.book);
+            next.run_row(&mut a.ring, &mut a.row, &counts_a).expect("counts within the bound");
+            next
+        }),
+        proved: repeated(move || proved::run_row(black_box(crossed(b.book)), &mut b.ring, &mut b.row, &counts)),
+    });
+}
+
+/// A total by a row beside the plain one by a row, and beside the plain walk.
+fn total_row_cases(cases: &mut Vec<Case>, setting: &str, filled: Filled) {
+    let by_row = |filled: Filled| {
+        let record = crossed(filled.book);
+        repeated(move || proved::total_row(black_box(record), &filled.ring, &filled.row, black_box(record.kept)))
+    };
+    let [a, b, c, d] = [filled.clone(), filled.clone(), filled.clone(), filled];
+    cases.push(Case {
+        name: format!("total of all that is kept by a row on both sides, {setting}"),
+        plain: repeated(move || black_box(&a.book).total_row(&a.ring, &a.row, black_box(a.book.kept))),
+        proved: by_row(b),
+    });
+    cases.push(Case {
+        name: format!("total of all that is kept by a row beside a plain total without one, {setting}"),
+        plain: repeated(move || black_box(&c.book).total(&c.ring, black_box(c.book.kept))),
+        proved: by_row(d),
+    });
+}
+
+fn row_cases(cases: &mut Vec<Case>, setting: &str, bound: u64, length: u64, tolerance: u64) {
+    let filled = Filled::by_a_third(bound, length, tolerance);
+    let last = Filled::before_the_last_slot(bound, length, tolerance);
+    add_row_case(cases, &format!("closes a block, {setting}"), filled.clone());
+    add_row_case(cases, &format!("stores the sum of all slots, {setting}"), last);
+    run_row_case(cases, setting, filled.clone());
+    total_row_cases(cases, setting, filled);
+}
+
 fn header_case(cases: &mut Vec<Case>, what: &str, image: Vec<u8>) {
     let (a, b) = (image.clone(), image);
     cases.push(Case {
@@ -205,6 +284,7 @@ pub fn all() -> Vec<Case> {
     for (setting, bound, length, tolerance) in SETTINGS {
         shape_case(&mut cases, setting, bound, length, tolerance);
         book_cases(&mut cases, setting, bound, length, tolerance);
+        row_cases(&mut cases, setting, bound, length, tolerance);
     }
     picture_cases(&mut cases);
     cases

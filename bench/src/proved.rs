@@ -53,6 +53,15 @@ pub struct Answer {
     pub value: u64,
 }
 
+#[derive(Clone, Copy, Debug, Default, PartialEq, Eq)]
+#[repr(C)]
+pub struct Summed {
+    pub refusal: u8,
+    pub figure: u64,
+    pub fields: u64,
+    pub sums: u64,
+}
+
 #[derive(Clone, Copy, Debug, PartialEq, Eq)]
 #[repr(C)]
 pub struct Ruled {
@@ -95,6 +104,26 @@ extern "C" {
     fn uprzezar_total(book: Book, ring: *const u8, bytes: usize, window: u64) -> Answer;
     fn uprzezar_far(book: Book, ring: *const u8, bytes: usize, amount: u64) -> Answer;
     fn uprzezar_verdict(book: Book, ring: *const u8, bytes: usize, window: u64, amount: u64) -> Ruled;
+    fn uprzezar_open_row(
+        bound: u64,
+        length: u64,
+        tolerance: u64,
+        ring: *mut u8,
+        bytes: usize,
+        row: *mut u32,
+        entries: usize,
+    ) -> Updated;
+    fn uprzezar_add_row(book: Book, ring: *mut u8, bytes: usize, row: *mut u32, entries: usize, item: u64) -> Updated;
+    fn uprzezar_run_row(
+        book: Book,
+        ring: *mut u8,
+        bytes: usize,
+        row: *mut u32,
+        entries: usize,
+        counts: *const u64,
+        how_many: usize,
+    ) -> Ran;
+    fn uprzezar_total_row(book: Book, ring: *const u8, bytes: usize, row: *const u32, entries: usize, window: u64) -> Summed;
     fn uprzezar_header(bytes: *const u8, count: usize) -> Numbers;
     fn uprzezar_raster(bytes: *const u8, count: usize) -> RasterPlace;
     fn uprzezar_score(bound: u64, allowance: u8, first: *const u8, ones: usize, second: *const u8, twos: usize) -> Answer;
@@ -152,6 +181,23 @@ pub fn far(book: Book, ring: &[u8], amount: u64) -> Answer {
 
 pub fn verdict(book: Book, ring: &[u8], window: u64, amount: u64) -> Ruled {
     unsafe { uprzezar_verdict(book, ring.as_ptr(), ring.len(), window, amount) }
+}
+
+pub fn open_row(bound: u64, length: u64, tolerance: u64, ring: &mut [u8], row: &mut [u32]) -> Updated {
+    unsafe { uprzezar_open_row(bound, length, tolerance, ring.as_mut_ptr(), ring.len(), row.as_mut_ptr(), row.len()) }
+}
+
+pub fn add_row(book: Book, ring: &mut [u8], row: &mut [u32], item: u64) -> Updated {
+    unsafe { uprzezar_add_row(book, ring.as_mut_ptr(), ring.len(), row.as_mut_ptr(), row.len(), item) }
+}
+
+pub fn run_row(book: Book, ring: &mut [u8], row: &mut [u32], counts: &[u64]) -> Ran {
+    let (bytes, entries) = (ring.len(), row.len());
+    unsafe { uprzezar_run_row(book, ring.as_mut_ptr(), bytes, row.as_mut_ptr(), entries, counts.as_ptr(), counts.len()) }
+}
+
+pub fn total_row(book: Book, ring: &[u8], row: &[u32], window: u64) -> Summed {
+    unsafe { uprzezar_total_row(book, ring.as_ptr(), ring.len(), row.as_ptr(), row.len(), window) }
 }
 
 pub fn header(bytes: &[u8]) -> Numbers {

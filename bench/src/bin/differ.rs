@@ -6,13 +6,14 @@ use bench::cases::crossed;
 use bench::chance::Chance;
 use bench::pictures::{pixel_bytes, put_pixel};
 use bench::plain::book::{Book, Notice, Shape};
+use bench::plain::sums::Summed;
 use bench::plain::{image, ring, score, Refusal};
 use bench::proved;
 
 /// How many calls of a kind came out with which refusal; 0 for none.
 struct Tally {
     name: &'static str,
-    counts: [u64; 18],
+    counts: [u64; 19],
 }
 
 fn alike<T: PartialEq + std::fmt::Debug>(name: &str, side: &str, other: T, proved: T, call: impl Fn() -> String) {
@@ -145,6 +146,16 @@ fn mark(chance: &mut Chance) -> u64 {
     chance.pick(&[1, 1, 2, 255, 256, 1 << 32, 1 << 63, u64::MAX, anything])
 }
 
+/// A record with these three numbers, at or near the edges of refusal 8.
+fn made_up(chance: &mut Chance, bound: u64, length: u64, tolerance: u64) -> Book {
+    let block = tolerance.checked_div(bound).unwrap_or(1).max(1);
+    let kept = near(chance, length);
+    let phase = near(chance, kept.min(block - 1));
+    let most = tolerance.wrapping_sub(1).wrapping_add(phase.wrapping_mul(bound));
+    let head = near(chance, length.div_ceil(block).wrapping_sub(1));
+    Book { bound, length, tolerance, carry: near(chance, most), phase, kept, head, resting: mark(chance) }
+}
+
 /// A record with its ring: from a good start in half of the cases, made up in the others; with any mark in both.
 fn state(chance: &mut Chance) -> (Book, Vec<u8>) {
     let (bound, length, tolerance) = setting(chance);
@@ -160,12 +171,7 @@ fn state(chance: &mut Chance) -> (Book, Vec<u8>) {
             return (book, ring);
         }
     }
-    let block = tolerance.checked_div(bound).unwrap_or(1).max(1);
-    let kept = near(chance, length);
-    let phase = near(chance, kept.min(block - 1));
-    let most = tolerance.wrapping_sub(1).wrapping_add(phase.wrapping_mul(bound));
-    let head = near(chance, length.div_ceil(block).wrapping_sub(1));
-    (Book { bound, length, tolerance, carry: near(chance, most), phase, kept, head, resting: mark(chance) }, ring)
+    (made_up(chance, bound, length, tolerance), ring)
 }
 
 fn shaped(result: Result<Shape, Refusal>) -> proved::Shaped {
@@ -291,6 +297,141 @@ fn run_call(chance: &mut Chance, t: &mut Tally) {
     let one = one_by_one(record, &mut c, &counts);
     alike(t.name, "one by one", (one, &c), (q, &b), call);
     same(t, refusal, (p, a), (q, b), call);
+}
+
+/// L, n and D of a book that for the most part has several groups of slots.
+fn row_setting(chance: &mut Chance) -> (u64, u64, u64) {
+    if chance.one_in(4) {
+        return setting(chance);
+    }
+    let bound = 1 + if chance.one_in(2) { chance.below(65535) } else { chance.below(40) };
+    let most = chance.pick(&[31, 32, 33, 64, 65, 97, 130, 200, 300, 4096]);
+    let length = if chance.one_in(4) { near(chance, most) } else { most };
+    let tolerance = if chance.one_in(2) { 1 + chance.below(bound) } else { bound * (1 + chance.below(3)) };
+    (bound, length, tolerance)
+}
+
+/// A row as long as such a book takes, for the most part, with numbers of any size.
+fn lent_row(chance: &mut Chance, bound: u64, length: u64, tolerance: u64) -> Vec<u32> {
+    let block = tolerance.checked_div(bound).unwrap_or(1).max(1);
+    let entries = length.min(4097).div_ceil(block).div_ceil(32);
+    let entries = match chance.below(16) {
+        0 => entries.saturating_sub(1),
+        1 => entries + 3,
+        2 => chance.below(entries + 1),
+        _ => entries,
+    };
+    let most = chance.pick(&[1, 40, 2000, 1 << 28, 1 << 32]);
+    (0..entries).map(|_| if chance.one_in(8) { u32::MAX } else { chance.below(most) as u32 }).collect()
+}
+
+/// A record with its ring and its row, and whether the three have been kept together from an opening on.
+struct Rowed {
+    book: Book,
+    ring: Vec<u8>,
+    row: Vec<u32>,
+    kept: bool,
+}
+
+fn rowed(chance: &mut Chance) -> Rowed {
+    let (bound, length, tolerance) = row_setting(chance);
+    let mut ring = lent(chance, ring_bytes(bound, length, tolerance));
+    let mut row = lent_row(chance, bound, length, tolerance);
+    if chance.one_in(3) {
+        return Rowed { book: made_up(chance, bound, length, tolerance), ring, row, kept: false };
+    }
+    let Ok(mut book) = Book::open_row(bound, length, tolerance, &mut ring, &mut row) else {
+        return Rowed { book: made_up(chance, bound, length, tolerance), ring, row, kept: false };
+    };
+    let most = if chance.one_in(100) { 4096 } else { 150 };
+    let items: Vec<u64> = (0..chance.below(3 * length.min(most))).map(|_| chance.below(bound + 1)).collect();
+    book.run_row(&mut ring, &mut row, &items).expect("the items are within the bound");
+    book.resting = mark(chance);
+    let kept = !chance.one_in(4);
+    if !kept {
+        row = lent_row(chance, bound, length, tolerance);
+    }
+    Rowed { book, ring, row, kept }
+}
+
+fn summed(result: Result<Summed, Refusal>) -> proved::Summed {
+    match result {
+        Ok(Summed { figure, fields, sums }) => proved::Summed { refusal: 0, figure, fields, sums },
+        Err(refusal) => proved::Summed { refusal: refusal as u8, ..Default::default() },
+    }
+}
+
+fn open_row_call(chance: &mut Chance, t: &mut Tally) {
+    let (bound, length, tolerance) = row_setting(chance);
+    let bytes = lent(chance, ring_bytes(bound, length, tolerance));
+    let numbers = lent_row(chance, bound, length, tolerance);
+    let (mut ring_a, mut row_a) = (bytes.clone(), numbers.clone());
+    let (mut ring_b, mut row_b) = (bytes.clone(), numbers.clone());
+    let p = opened(Book::open_row(bound, length, tolerance, &mut ring_a, &mut row_a));
+    let q = proved::open_row(bound, length, tolerance, &mut ring_b, &mut row_b);
+    let call = || format!("{bound} {length} {tolerance}, ring {bytes:02x?}, row {numbers:?}");
+    same(t, p.refusal, (p, ring_a, row_a), (q, ring_b, row_b), call);
+}
+
+/// An item and a total with a row; where it has been kept beside the ring, the figure is that of the walk too.
+fn row_calls(chance: &mut Chance, t: &mut [Tally]) {
+    let Rowed { book, ring, row, kept } = rowed(chance);
+    let item = near(chance, book.bound);
+    let window = near(chance, book.kept);
+    let record = crossed(book);
+    let call = || format!("{book:?}, item {item}, window {window}, ring {ring:02x?}, row {row:?}");
+
+    let (mut ring_a, mut row_a) = (ring.clone(), row.clone());
+    let (mut ring_b, mut row_b) = (ring.clone(), row.clone());
+    let p = updated(book, |next| next.add_row(&mut ring_a, &mut row_a, item));
+    let q = proved::add_row(record, &mut ring_b, &mut row_b, item);
+    same(&mut t[0], p.refusal, (p, ring_a, row_a), (q, ring_b, row_b), call);
+    let (p, q) = (summed(book.total_row(&ring, &row, window)), proved::total_row(record, &ring, &row, window));
+    if kept {
+        let walk = proved::total(record, &ring, window);
+        alike(t[1].name, "by the walk", walk, proved::Answer { refusal: q.refusal, value: q.figure }, call);
+    }
+    assert!(q.fields <= 64 && q.sums <= 3, "more is read than may be");
+    same(&mut t[1], p.refusal, p, q, call);
+}
+
+/// A run with a row by the library's own adds with it, one for each count, as `one_by_one` does it without.
+fn one_by_one_with_row(book: proved::Book, ring: &mut Vec<u8>, row: &mut Vec<u32>, counts: &[u64]) -> proved::Ran {
+    let refused = |refusal, place| proved::Ran { refusal, place, book };
+    let asked = proved::total_row(book, ring, row, 0);
+    if asked.refusal != 0 {
+        return refused(asked.refusal, 0);
+    }
+    if book.resting != 0 {
+        return refused(Refusal::BookRests as u8, 0);
+    }
+    let (mut next, mut bytes, mut numbers) = (book, ring.clone(), row.clone());
+    for (place, &count) in (1..).zip(counts) {
+        let added = proved::add_row(next, &mut bytes, &mut numbers, count);
+        if added.refusal != 0 {
+            return refused(added.refusal, place);
+        }
+        next = added.book;
+    }
+    (*ring, *row) = (bytes, numbers);
+    proved::Ran { refusal: 0, place: 0, book: next }
+}
+
+fn run_row_call(chance: &mut Chance, t: &mut Tally) {
+    let Rowed { mut book, ring, row, .. } = rowed(chance);
+    let counts = counts_for(chance, book.bound);
+    let record = crossed(book);
+    let call = || format!("{record:?}, counts {counts:?}, ring {ring:02x?}, row {row:?}");
+
+    let [mut ring_a, mut ring_b, mut ring_c] = [ring.clone(), ring.clone(), ring.clone()];
+    let [mut row_a, mut row_b, mut row_c] = [row.clone(), row.clone(), row.clone()];
+    let result = book.run_row(&mut ring_a, &mut row_a, &counts);
+    let (refusal, place) = result.map_or_else(|why| (why.refusal as u8, why.place), |()| (0, 0));
+    let p = proved::Ran { refusal, place, book: crossed(book) };
+    let q = proved::run_row(record, &mut ring_b, &mut row_b, &counts);
+    let one = one_by_one_with_row(record, &mut ring_c, &mut row_c, &counts);
+    alike(t.name, "one by one", (one, &ring_c, &row_c), (q, &ring_b, &row_b), call);
+    same(t, refusal, (p, ring_a, row_a), (q, ring_b, row_b), call);
 }
 
 fn whites(chance: &mut Chance, into: &mut Vec<u8>) {
@@ -446,9 +587,9 @@ fn main() {
     let rounds: u64 = std::env::args().nth(1).map_or(1_000_000, |n| n.parse().expect("a number of rounds"));
     let names = [
         "ring_clear", "ring_read", "ring_write", "ring_sum", "shape", "open", "add", "total", "far", "verdict", "rest", "wake", "run",
-        "header", "raster", "score",
+        "header", "raster", "score", "open_row", "add_row", "total_row", "run_row",
     ];
-    let mut tallies = names.map(|name| Tally { name, counts: [0; 18] });
+    let mut tallies = names.map(|name| Tally { name, counts: [0; 19] });
     let mut chance = Chance::new(2026);
     for _ in 0..rounds {
         slots_call(&mut chance, &mut tallies[0..4]);
@@ -457,6 +598,9 @@ fn main() {
         book_calls(&mut chance, &mut tallies[6..12]);
         run_call(&mut chance, &mut tallies[12]);
         image_calls(&mut chance, &mut tallies[13..16]);
+        open_row_call(&mut chance, &mut tallies[16]);
+        row_calls(&mut chance, &mut tallies[17..19]);
+        run_row_call(&mut chance, &mut tallies[19]);
     }
     one_bit_sums(&mut chance, &mut tallies[3]);
     let calls: u64 = tallies.iter().flat_map(|tally| tally.counts).sum();

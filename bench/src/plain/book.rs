@@ -23,6 +23,12 @@ pub struct RunRefused {
     pub place: u64,
 }
 
+impl From<Refusal> for RunRefused {
+    fn from(refusal: Refusal) -> RunRefused {
+        RunRefused { refusal, place: 0 }
+    }
+}
+
 #[derive(Clone, Copy, Debug, PartialEq, Eq)]
 pub enum Verdict {
     Live,
@@ -109,7 +115,7 @@ impl Book {
         Ok(shape)
     }
 
-    fn check(&self, ring: &[u8]) -> Result<Shape, Refusal> {
+    pub(super) fn check(&self, ring: &[u8]) -> Result<Shape, Refusal> {
         let shape = self.check_record()?;
         if ring.len() < shape.bytes() {
             return Err(Refusal::RingTooShort);
@@ -118,20 +124,32 @@ impl Book {
     }
 
     /// Whether items are taken, one or many.
-    fn check_awake(&self, ring: &[u8]) -> Result<Shape, Refusal> {
-        let shape = self.check(ring)?;
+    pub(super) fn check_awake(&self) -> Result<(), Refusal> {
         if self.resting != 0 {
             return Err(Refusal::BookRests);
         }
-        Ok(shape)
+        Ok(())
+    }
+
+    pub(super) fn check_item(&self, item: u64) -> Result<(), Refusal> {
+        if item > self.bound {
+            return Err(Refusal::ItemTooLarge);
+        }
+        Ok(())
+    }
+
+    pub(super) fn check_counts(&self, counts: &[u64]) -> Result<(), RunRefused> {
+        match counts.iter().position(|&count| count > self.bound) {
+            Some(before) => Err(RunRefused { refusal: Refusal::ItemTooLarge, place: before as u64 + 1 }),
+            None => Ok(()),
+        }
     }
 
     #[inline(never)]
     pub fn add(&mut self, ring: &mut [u8], item: u64) -> Result<(), Refusal> {
-        let shape = self.check_awake(ring)?;
-        if item > self.bound {
-            return Err(Refusal::ItemTooLarge);
-        }
+        let shape = self.check(ring)?;
+        self.check_awake()?;
+        self.check_item(item)?;
         self.take(&shape, ring, item);
         Ok(())
     }
@@ -139,10 +157,9 @@ impl Book {
     /// All counts, one after the other, or none of them where one is above the bound.
     #[inline(never)]
     pub fn run(&mut self, ring: &mut [u8], counts: &[u64]) -> Result<(), RunRefused> {
-        let shape = self.check_awake(ring).map_err(|refusal| RunRefused { refusal, place: 0 })?;
-        if let Some(before) = counts.iter().position(|&count| count > self.bound) {
-            return Err(RunRefused { refusal: Refusal::ItemTooLarge, place: before as u64 + 1 });
-        }
+        let shape = self.check(ring)?;
+        self.check_awake()?;
+        self.check_counts(counts)?;
         for &count in counts {
             self.take(&shape, ring, count);
         }
@@ -151,7 +168,7 @@ impl Book {
 
     /// Takes an item within the bound.
     #[inline]
-    fn take(&mut self, shape: &Shape, ring: &mut [u8], item: u64) {
+    pub(super) fn take(&mut self, shape: &Shape, ring: &mut [u8], item: u64) {
         self.carry += item;
         self.phase += 1;
         self.kept = (self.kept + 1).min(self.length);
@@ -180,24 +197,33 @@ impl Book {
         (self.carry + self.tolerance * sum).saturating_sub(self.tolerance - 1 + e * self.bound * g)
     }
 
-    fn total_within(&self, shape: &Shape, ring: &[u8], window: u64) -> u64 {
+    pub(super) fn check_window(&self, window: u64) -> Result<(), Refusal> {
+        if window > self.kept {
+            return Err(Refusal::WindowTooLong);
+        }
+        Ok(())
+    }
+
+    /// The figure for a window that is kept, with the sum of so many newest slots as `sum_newest` gives it.
+    #[inline]
+    pub(super) fn figure_by(&self, shape: &Shape, ring: &[u8], window: u64, sum_newest: impl FnOnce(usize) -> u64) -> u64 {
         if window <= self.phase {
             return self.figure(0, self.phase - window, self.carry / self.tolerance);
         }
         let items = window - self.phase;
         let j = items.div_ceil(shape.block);
-        let head = self.head as usize;
-        let sum = ring::sum_newest(shape.width, shape.slots, ring, head, j as usize);
-        let oldest = (head + shape.slots - j as usize) % shape.slots;
-        self.figure(sum, j * shape.block - items, ring::get(shape.width, ring, oldest))
+        let oldest = (self.head as usize + shape.slots - j as usize) % shape.slots;
+        self.figure(sum_newest(j as usize), j * shape.block - items, ring::get(shape.width, ring, oldest))
+    }
+
+    fn total_within(&self, shape: &Shape, ring: &[u8], window: u64) -> u64 {
+        self.figure_by(shape, ring, window, |j| ring::sum_newest(shape.width, shape.slots, ring, self.head as usize, j))
     }
 
     #[inline(never)]
     pub fn total(&self, ring: &[u8], window: u64) -> Result<u64, Refusal> {
         let shape = self.check(ring)?;
-        if window > self.kept {
-            return Err(Refusal::WindowTooLong);
-        }
+        self.check_window(window)?;
         Ok(self.total_within(&shape, ring, window))
     }
 
@@ -238,9 +264,7 @@ impl Book {
         if amount == 0 || window == 0 {
             return Err(Refusal::ZeroAsked);
         }
-        if window > self.kept {
-            return Err(Refusal::WindowTooLong);
-        }
+        self.check_window(window)?;
         let figure = self.total_within(&shape, ring, window);
         let verdict = if self.resting != 0 {
             Verdict::Resting

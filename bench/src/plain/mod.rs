@@ -5,6 +5,7 @@ pub mod image;
 pub mod program;
 pub mod ring;
 pub mod score;
+pub mod sums;
 
 /// Why a call was refused; the numbers are those of docs/SCOPE.md, Refusals.
 #[derive(Clone, Copy, Debug, PartialEq, Eq)]
@@ -27,4 +28,5 @@ pub enum Refusal {
     PixelTooLarge = 15,
     ImagesDiffer = 16,
     BookRests = 17,
+    RowTooShort = 18,
 }

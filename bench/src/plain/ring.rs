@@ -54,14 +54,18 @@ fn ones(ring: &[u8], from: usize, to: usize) -> u64 {
     masked(first, start) + words + bytes + if end == 0 { 0 } else { masked(last, end) }
 }
 
+/// The sum of the slots from `from` up to `to`.
+pub(super) fn sum_between(width: usize, ring: &[u8], from: usize, to: usize) -> u64 {
+    match width {
+        1 => ones(ring, from, to),
+        _ => (from..to).map(|slot| get(width, ring, slot)).sum::<u64>(),
+    }
+}
+
 /// The sum of the `j` newest slots before `next`, as two runs of slots: those before `next`, and the rest at the ring's end.
 pub(super) fn sum_newest(width: usize, slots: usize, ring: &[u8], next: usize, j: usize) -> u64 {
     let here = j.min(next);
-    let run = |from: usize, to: usize| match width {
-        1 => ones(ring, from, to),
-        _ => (from..to).map(|slot| get(width, ring, slot)).sum::<u64>(),
-    };
-    run(next - here, next) + run(slots - (j - here), slots)
+    sum_between(width, ring, next - here, next) + sum_between(width, ring, slots - (j - here), slots)
 }
 
 #[inline(never)]

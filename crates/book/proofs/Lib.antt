@@ -31,4 +31,5 @@ pub mod ComesBack
 pub mod NotByTheMark
 pub mod DarkHours
 pub mod Demand1
+pub mod AsWritten
 pub mod Promises

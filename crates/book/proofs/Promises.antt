@@ -66,3 +66,14 @@ pub use Rattle.book.proofs.FigureInTwoCases.{figure-in-open, figure-in-
 pub use Rattle.book.proofs.VerdictRule.{live-by, frozen-by, resting-by, by-figure, carries-figure}
 -- of two numbers one is not above the other
 pub use Rattle.book.proofs.RoundedUp.{le-or-lt}
+-- FOR CALLS ABOVE that ask a fault more, or sum the slots in another way: what the definitions say, as laws
+pub use Rattle.book.proofs.AsWritten.{open-refusal, add-refusal, run-refusal, mark-refusal, total-refusal, open-number, add-number, run-number, mark-number, total-number, shape-cases, open-back, add-hands-back, run-hands-back, total-hands-back, by-open, by-slots, reckoned-is, for-is, rounded-up, all-none, all-more}
+-- a record is a book with its ring exactly where 8 and 4 are passed, and L, n and D are in their ranges where 1, 2 and 3 are; 8 and 4 one by one
+pub use Rattle.book.proofs.WhenTaken.{usable-known, usable-passes, ranges-known, ranges-pass, no-record, no-room, book-passes}
+-- how large the numbers of a book get
+pub use Rattle.book.proofs.StepsInRange.{held-le, slots-top, times-top, span-top, carry-top}
+-- head moving on, in its two cases
+pub use Rattle.book.proofs.NextSlot.{slot-after-cases}
+-- counts in parts: adding all is adding those of one part and then those of the other, and where none is above L none of a part is
+pub use Rattle.book.proofs.RunInParts.{added-all-apart, added-ring-apart}
+pub use Rattle.book.proofs.LookingAtAll.{above-empty, above-cons, above-join, above-take, above-drop}

@@ -18,15 +18,15 @@ use Rattle.book.specs.Adding.{added, addedRing}
 use Rattle.book.proofs.Promises.{open-known, open-gives, add-known, add-gives, mark-gives}
 use Rattle.demands.specs.History.{Upon, OnlyAsks, Good, start, adding, resting, waking, otherwise}
 
--- a call that is refused or only asks leaves record and ring as they came
-pub nothing-changes : (book : Book) (ring : List ℕ) (call : Call Book (List ℕ)) → Upon book ring call
-    → (refusalOf call ≡ 0 → ⊥) ⊎ OnlyAsks book ring call → (resultOf call ≡ book) × (leftOf call ≡ ring)
-nothing-changes book ring call upon (inl refused) = (
+-- a call that is refused or only asks leaves the record, and what was lent, as they came
+pub nothing-changes : {Lent : Type 0} (book : Book) (lent : Lent) (call : Call Book Lent) → Upon book lent call
+    → (refusalOf call ≡ 0 → ⊥) ⊎ OnlyAsks book lent call → (resultOf call ≡ book) × (leftOf call ≡ lent)
+nothing-changes book lent call upon (inl refused) = (
   sym (result-refused call refl refused) ∙ upon .hands-back (refusalOf call),
   sym (left-refused call refl refused) ∙ upon .lent-is,
 )
-nothing-changes book ring call upon (inr asks) =
-    (result-asked call book (asks .0) (upon .hands-back), left-asked call ring (asks .1) (upon .lent-is))
+nothing-changes book lent call upon (inr asks) =
+    (result-asked call book (asks .0) (upon .hands-back), left-asked call lent (asks .1) (upon .lent-is))
 
 module _ (P : Book → List ℕ → List ℕ → Type 0)
     (fresh : (bound n tolerance : ℕ) (lent : List ℕ) → Ranges bound n tolerance → bytesNeeded bound n tolerance ≤ length lent

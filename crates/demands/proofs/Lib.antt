@@ -12,3 +12,5 @@ pub mod Quotients
 pub mod RunFromOpening
 pub mod RunsKeepGood
 pub mod RestsKeepGood
+pub mod RowsKept
+pub mod RowCallsKeepGood

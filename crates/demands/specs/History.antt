@@ -8,15 +8,15 @@ use Rattle.refusals.specs.Call.{Call, refusalOf, resultOf, leftOf}
 use Rattle.book.specs.declared.Book.{Book}
 use Rattle.book.specs.Calls.{openCall, addCall, restCall, wakeCall}
 
--- A call upon a record and a ring, seen by the record that its caller goes on with: a refusal hands back the record as it came, and the
--- ring was lent
-pub record Upon (book : Book) (ring : List ℕ) (call : Call Book (List ℕ)) : Type 0 where
+-- A call upon a record and what is lent with it, the ring or the ring with more, seen by the record that its caller goes on with: a refusal hands
+-- back the record as it came, and this was lent
+pub record Upon {Lent : Type 0} (book : Book) (lent : Lent) (call : Call Book Lent) : Type 0 where
   pub hands-back : (number : ℕ) → call .back number ≡ book
-  pub lent-is : call .lent ≡ ring
+  pub lent-is : call .lent ≡ lent
 
--- it only asks: where it is not refused, record and ring are as they came too
-abbrev pub OnlyAsks : Book → List ℕ → Call Book (List ℕ) → Type 0
-OnlyAsks book ring call = (call .given ≡ book) × (call .left ≡ ring)
+-- it only asks: where it is not refused, record and what was lent are as they came too
+abbrev pub OnlyAsks : {Lent : Type 0} → Book → Lent → Call Book Lent → Type 0
+OnlyAsks book lent call = (call .given ≡ book) × (call .left ≡ lent)
 
 -- Good book ring items: the record and the ring as the last call left them, and all accepted items, the newest first.
 -- It begins with an opening that is not refused, and goes on with items that are accepted, with resting and waking, which leave the ring and

@@ -3,3 +3,5 @@ pub mod Demand2
 pub mod Demand3
 pub mod VerdictMeans
 pub mod RunFromOpening
+pub mod HistoryWithRow
+pub mod DemandsWithRow

@@ -125,6 +125,22 @@ result-cases P call taken refused = by (refusalOf call) refl
     by zero e = taken e
     by (suc m) e = refused m e
 
+-- two calls with the same refusal, of which one gives and hands back what the other does, have the same result …
+pub same-result : {Result Lent Lent′ : Type 0} (call : Call Result Lent) (other : Call Result Lent′) → refusalOf call ≡ refusalOf other
+    → call .given ≡ other .given → call .back ≡ other .back → resultOf call ≡ resultOf other
+unfolding resultOf
+same-result call other same given back = λ i. byRefusal (same i) (given i) (back i)
+
+-- … and leave the same of a part that both were lent
+pub same-left : {Result Result′ Lent Part : Type 0} (part : Lent → Part) (call : Call Result Lent) (other : Call Result′ Part)
+    → refusalOf call ≡ refusalOf other → part (call .left) ≡ other .left → part (call .lent) ≡ other .lent → part (leftOf call) ≡ leftOf other
+unfolding leftOf
+same-left part call other same left lent = by (refusalOf call) ∙ (λ i. unlessRefused (same i) (left i) (lent i))
+  where
+    by : (m : ℕ) → part (unlessRefused m (call .left) (call .lent)) ≡ unlessRefused m (part (call .left)) (part (call .lent))
+    by zero = refl
+    by (suc m) = refl
+
 -- a call that only asks leaves what was lent, refused or not
 pub asks-leaves : {Result Lent : Type 0} (call : Call Result Lent) → call .left ≡ call .lent → call .lent ≡ leftOf call
 unfolding leftOf

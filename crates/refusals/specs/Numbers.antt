@@ -69,6 +69,10 @@ imagesDiffer = 16
 abbrev pub bookRests : ℕ
 bookRests = 17
 
--- 23: a buffer for a line has fewer than 96 bytes (18 to 22 are kept for requests)
+-- 18: the row of running sums has fewer entries than there are groups of slots
+abbrev pub rowTooShort : ℕ
+rowTooShort = 18
+
+-- 23: a buffer for a line has fewer than 96 bytes (19 to 22 are kept for requests)
 abbrev pub bufferTooShort : ℕ
 bufferTooShort = 23

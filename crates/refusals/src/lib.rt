@@ -34,5 +34,7 @@ pub const IMAGES_DIFFER: u8 = 16;
 
 pub const BOOK_RESTS: u8 = 17;
 
-// 23: a buffer for a line has fewer than 96 bytes (18 to 22 are kept for requests).
+pub const ROW_TOO_SHORT: u8 = 18;
+
+// 23: a buffer for a line has fewer than 96 bytes (19 to 22 are kept for requests).
 pub const BUFFER_TOO_SHORT: u8 = 23;

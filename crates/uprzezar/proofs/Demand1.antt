@@ -1,5 +1,5 @@
 -- Demand 1 and uniqueness of each exported call. Where the statement is that of the call behind it, so are its theorems: `ring-calls`,
--- `book-calls`, `image-calls` and `score-calls` say which row it is. `Post` is the statement itself, as it stands at the function.
+-- `book-calls`, `sums-calls`, `image-calls` and `score-calls` say which row it is. `Post` is the statement itself, as it stands at the function.
 -- Assumes nothing.
 use Prim.Native.Nat.{ℕ}
 use mathlib.Core.List.{List}
@@ -20,6 +20,9 @@ use Rattle.book.specs.declared.shape.Shaped.{Shaped}
 use Rattle.book.specs.Shape.{shapeCall}
 use Rattle.book.specs.Calls.{openCall, addCall, runCall, restCall, wakeCall, totalCall, howFarCall, verdictCall}
 use Rattle.book.proofs.Promises as book-calls
+use Rattle.sums.specs.declared.Summed.{Summed}
+use Rattle.sums.specs.Calls.{openRowCall, addRowCall, runRowCall, totalRowCall}
+use Rattle.sums.proofs.Promises as sums-calls
 use Rattle.image.specs.declared.Numbers.{Numbers}
 use Rattle.image.specs.Reading.{headerCall}
 use Rattle.image.proofs.Demand1 as image-calls
@@ -42,6 +45,10 @@ use Rattle.uprzezar.proofs.of_book.uprzezar_wake.Reads as wake-reads
 use Rattle.uprzezar.proofs.of_book.uprzezar_total.Reads as total-reads
 use Rattle.uprzezar.proofs.of_book.uprzezar_far.Reads as far-reads
 use Rattle.uprzezar.proofs.of_book.uprzezar_verdict.Reads as verdict-reads
+use Rattle.uprzezar.proofs.of_sums.uprzezar_open_row.Reads as open-row-reads
+use Rattle.uprzezar.proofs.of_sums.uprzezar_add_row.Reads as add-row-reads
+use Rattle.uprzezar.proofs.of_sums.uprzezar_run_row.Reads as run-row-reads
+use Rattle.uprzezar.proofs.of_sums.uprzezar_total_row.Reads as total-row-reads
 use Rattle.uprzezar.proofs.of_images.uprzezar_header.Reads as header-reads
 use Rattle.uprzezar.proofs.of_images.uprzezar_raster.Reads as raster-reads
 use Rattle.uprzezar.proofs.of_images.uprzezar_score.Reads as score-reads
@@ -103,6 +110,27 @@ module _ (κs : Lfts 2) where
   pub run-promised : Promised (run-reads.Post κs) (λ r. r) (λ a e. now (e .1 .0))
       (λ a. runCall (a .0) (now (a .1 .0)) (now (a .1 .1 .0))) (λ (r : Ran). r .refusal)
   run-promised = book-calls.run-promised κs
+
+-- THE BOOK WITH A ROW, which is lent beside the ring …
+module _ (κs : Lfts 2) where
+  pub open-row-promised : Promised (open-row-reads.Post κs) (λ r. r)
+      (λ a e. record { ring = now (e .1 .1 .1 .0); row = now (e .1 .1 .1 .1 .0) })
+      (λ a. openRowCall (a .0) (a .1 .0) (a .1 .1 .0) (now (a .1 .1 .1 .0)) (now (a .1 .1 .1 .1 .0))) (λ (r : Updated). r .refusal)
+  open-row-promised = sums-calls.open-row-promised κs
+
+  pub add-row-promised : Promised (add-row-reads.Post κs) (λ r. r) (λ a e. record { ring = now (e .1 .0); row = now (e .1 .1 .0) })
+      (λ a. addRowCall (a .0) (now (a .1 .0)) (now (a .1 .1 .0)) (a .1 .1 .1 .0)) (λ (r : Updated). r .refusal)
+  add-row-promised = sums-calls.add-row-promised κs
+
+  pub total-row-promised : Promised (total-row-reads.Post κs) (λ r. r) (λ a e. record { ring = now (a .1 .0); row = now (a .1 .1 .0) })
+      (λ a. totalRowCall (a .0) (now (a .1 .0)) (now (a .1 .1 .0)) (a .1 .1 .1 .0)) (λ (r : Summed). r .refusal)
+  total-row-promised = sums-calls.total-row-promised κs
+
+-- … and a run of counts with it
+module _ (κs : Lfts 3) where
+  pub run-row-promised : Promised (run-row-reads.Post κs) (λ r. r) (λ a e. record { ring = now (e .1 .0); row = now (e .1 .1 .0) })
+      (λ a. runRowCall (a .0) (now (a .1 .0)) (now (a .1 .1 .0)) (now (a .1 .1 .1 .0))) (λ (r : Ran). r .refusal)
+  run-row-promised = sums-calls.run-row-promised κs
 
 -- IMAGES. The raster's place is the header's answer seen in another form
 module _ (κs : Lfts 1) where

@@ -1,9 +1,10 @@
-// Every public call of ring, book, image and score for programs in C: the archive of `rt staticlib uprzezar`, the header
+// Every public call of ring, book, sums, image and score for programs in C: the archive of `rt staticlib uprzezar`, the header
 // include/uprzezar.h. Each function hands its arguments on and promises what the call behind it promises.
 mod crossing;
 mod of_book;
 mod of_images;
 mod of_ring;
+mod of_sums;
 
 // What the page is told, as numbers: the refusal, 0 for none; the verdict, 1 live, 2 frozen, 3 undecided, 4 resting; the window; the figure.
 // At a refusal all but the refusal are 0.

@@ -7,6 +7,7 @@ use crate::reading::record_in;
 use crate::reading::row_in;
 use crate::text;
 use book::Book;
+use book::Ran;
 use book::Updated;
 use book::verdicts::Notice;
 use book::verdicts::Ruling;
@@ -14,11 +15,11 @@ use book::verdicts::Verdict;
 ghost use Rattle.io.specs.Counts.{Counts};
 
 // What a shape is asked for and a book is opened with: `L n D`.
-struct Setting {
-    ok: bool,
-    bound: u64,
-    length: u64,
-    tolerance: u64,
+pub(crate) struct Setting {
+    pub ok: bool,
+    pub bound: u64,
+    pub length: u64,
+    pub tolerance: u64,
 }
 
 // What the calls on a record are handed: `record ring`, then one or two numbers. The ring lies at the start of the lent slice.
@@ -30,7 +31,7 @@ struct Asked {
     fourth: u64,
 }
 
-fn setting_in(line: &[u8]) -> Setting {
+pub(crate) fn setting_in(line: &[u8]) -> Setting {
     let bound = number_in(line, 1);
     let length = number_in(line, 2);
     let tolerance = number_in(line, 3);
@@ -67,9 +68,18 @@ fn refusal_and_record(r: Updated, out: &mut [u8]) -> usize {
 }
 
 // The refusal, the record and the ring.
-fn updated(r: Updated, ring: &[u8], out: &mut [u8]) -> usize {
+pub(crate) fn updated(r: Updated, ring: &[u8], out: &mut [u8]) -> usize {
     let behind = refusal_and_record(r, out);
     text::bytes(out, behind, ring)
+}
+
+// The refusal, the place, the record and the ring.
+pub(crate) fn placed(r: Ran, ring: &[u8], out: &mut [u8]) -> usize {
+    let at = text::refusal(out, r.refusal);
+    let behind = text::next(out, at, r.place);
+    let after = r.book;
+    let end = text::record(out, behind, after);
+    text::bytes(out, end, ring)
 }
 
 // The refusal, then c, s, z, b and B.
@@ -95,14 +105,9 @@ fn added(q: Asked, ring: &mut [u8], out: &mut [u8]) -> usize {
     updated(r, ring, out)
 }
 
-// The refusal, the place, the record and the ring.
 fn ran(b: Book, ring: &mut [u8], counts: &[u64], out: &mut [u8]) -> usize {
     let r = book::run(b, ring, counts);
-    let at = text::refusal(out, r.refusal);
-    let behind = text::next(out, at, r.place);
-    let after = r.book;
-    let end = text::record(out, behind, after);
-    text::bytes(out, end, ring)
+    placed(r, ring, out)
 }
 
 fn totalled(q: Asked, ring: &[u8], out: &mut [u8]) -> usize {
@@ -182,7 +187,7 @@ fn open(line: &[u8], ring: &mut [u8], out: &mut [u8]) -> usize {
     0
 }
 
-// `record ring counts`. No other call takes counts, so their array is this one's own.
+// `record ring counts`. No other call here takes counts, so their array is this one's own.
 fn run(line: &[u8], ring: &mut [u8], out: &mut [u8]) -> usize {
     let mut counts = [0u64; 16384];
     let entry = record_in(line);

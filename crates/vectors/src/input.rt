@@ -3,6 +3,7 @@ use crate::books;
 use crate::fields::place;
 use crate::images;
 use crate::rings;
+use crate::row_books;
 use crate::text;
 ghost use Prim.Native.Nat.{_≤_};
 ghost use lib.ListN.{length};
@@ -22,6 +23,10 @@ fn known(line: &[u8], first: &mut [u8], second: &mut [u8], out: &mut [u8]) -> us
     let book = books::answer(line, first, out);
     if book != 0 {
         return book;
+    }
+    let with_row = row_books::answer(line, first, out);
+    if with_row != 0 {
+        return with_row;
     }
     images::answer(line, first, second, out)
 }

@@ -6,15 +6,17 @@ mod images;
 mod input;
 mod reading;
 mod rings;
+mod row_books;
 mod text;
 
 fn main() {
-    // The longest line to be read: a record, a ring of 32,768 bytes and 16,384 counts of 20 digits, less than 410,000 characters. One with
-    // three fields of 32,768 bytes has less than 200,000. A line that fills the buffer cannot be read.
-    let mut buf = [0u8; 524288];
+    // The longest line to be read: a record, a ring of 32,768 bytes, a row of 16,384 numbers of 10 digits and as many counts of 20 digits,
+    // 590,000 characters. One with three fields of 32,768 bytes has less than 200,000. A line that fills the buffer cannot be read.
+    let mut buf = [0u8; 600000];
     let mut first = [0u8; 32768];
     let mut second = [0u8; 32768];
-    // The longest answer: a refusal, a place, a record of eight numbers, 32,768 bytes as hex, and the line's end.
-    let mut out = [0u8; 65792];
+    // The longest answer: a refusal, a place, a record of eight numbers, 32,768 bytes as hex, 16,384 numbers of 10 digits, and the line's end,
+    // less than 246,000 characters.
+    let mut out = [0u8; 262144];
     input::run(&mut buf, &mut first, &mut second, &mut out);
 }

@@ -1,4 +1,4 @@
-// Numbers, records, bytes and rows of counts from their text.
+// Numbers, records, bytes and rows from their text.
 use crate::fields::count;
 use crate::fields::field;
 use crate::fields::part;
@@ -15,7 +15,7 @@ pub(crate) struct Parsed {
     pub value: u64,
 }
 
-// How many bytes, or counts, were read, if the text is such that fit.
+// How many bytes, or numbers of a row, were read, if the text is such that fit.
 pub(crate) struct Size {
     pub ok: bool,
     pub size: usize,
@@ -223,4 +223,37 @@ pub(crate) fn row_in(line: &[u8], at: usize, out: &mut [u64]) -> Size
     ensures { λ r. ⌜ Counts (r .size) (now (out .exit)) ⌝ }
 {
     row(field(line, at), out)
+}
+
+// Puts numbers of 32 bits into the slice. Gives false at a larger one.
+fn narrow(numbers: &[u64], out: &mut [u32]) -> bool
+    requires { ⌜ length (now numbers) ≤ length (now out) ⌝ }
+{
+    let mut i = 0;
+    while i < numbers.len() {
+        let n = numbers[i];
+        if n > 4294967295 {
+            return false;
+        }
+        out[i] = n as u32;
+        i += 1;
+    }
+    true
+}
+
+// The row of sums in a field of the line. A sum has 32 bits: a row with a larger number is none.
+pub(crate) fn sums_in(line: &[u8], at: usize, out: &mut [u32]) -> Size
+    ensures { λ r. ⌜ Counts (r .size) (now (out .exit)) ⌝ }
+{
+    let mut numbers = [0u64; 16384];
+    let taken = row_in(line, at, &mut numbers);
+    let n = taken.size;
+    if !taken.ok {
+        return Size { ok: false, size: 0 };
+    }
+    if n > out.len() {
+        return Size { ok: false, size: 0 };
+    }
+    let ok = narrow(&numbers[..n], out);
+    Size { ok, size: n }
 }

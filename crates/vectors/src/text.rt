@@ -87,3 +87,27 @@ pub(crate) fn bytes(out: &mut [u8], at: usize, s: &[u8]) -> usize {
     }
     each(out, behind, s, true)
 }
+
+fn wide(n: u32) -> u64 {
+    n as u64
+}
+
+// The numbers of a row but for the first, each behind a comma.
+fn others(out: &mut [u8], from: usize, s: &[u32]) -> usize {
+    let mut at = from;
+    let mut i = 1;
+    while i < s.len() {
+        at = listed(out, at, wide(s[i]));
+        i += 1;
+    }
+    at
+}
+
+// A row of numbers joined by commas behind a space, `-` for none.
+pub(crate) fn row(out: &mut [u8], at: usize, s: &[u32]) -> usize {
+    if s.len() == 0 {
+        return word(out, at, b" -");
+    }
+    let behind = next(out, at, wide(s[0]));
+    others(out, behind, s)
+}

@@ -1,0 +1,158 @@
+-- A BOOK KEPT WITH A ROW (promises C-16.5, C-16.7) is a good book, has room in its row and a row that is kept: so its total by the row is the plain
+-- walk's for every window, demand 2 holds of it, and demand 3 as of any good book.
+-- Assumes nothing.
+use Prim.Native.Nat.{ℕ, _≤_, _<_}
+use native.Mathlib.Decide.{ℕ-discrete}
+use mathlib.Core.List.{List, [], _∷_}
+use mathlib.Core.Path.{_≡_, refl, sym, ap, _∙_}
+use lib.ListN.{length}
+use Rattle.refusals.specs.Call.{refusalOf, resultOf, leftOf}
+use Rattle.refusals.proofs.Calls.{result-refused}
+use Rattle.book.specs.declared.Book.{Book}
+use Rattle.book.specs.declared.Figure.{Figure}
+use Rattle.book.specs.declared.Updated.{Updated}
+use Rattle.book.specs.Derived.{slotCount}
+use Rattle.book.specs.Resting.{awake, atRest}
+use Rattle.book.specs.Adding.{added}
+use Rattle.book.specs.Calls.{markCall, totalCall}
+use Rattle.book.proofs.Promises.{open-known, open-gives, add-known, add-gives, added-same, mark-gives, total-known, total-gives, total-number, total-hands-back}
+use Rattle.sums.specs.declared.Summed.{Summed}
+use Rattle.sums.specs.Row.{entriesFor, entriesOf}
+use Rattle.sums.specs.RowKept.{RowKept}
+use Rattle.sums.specs.Calls.{RingAndRow, openRowCall, addRowCall, totalRowCall}
+use Rattle.sums.proofs.Promises.{open-beside, add-beside, open-leaves-rest, add-leaves-rest, kept-by-opening, kept-by-adding, figure-same, total-beside, total-row-gives, total-row-number, total-row-refused}
+use Rattle.demands.specs.History.{Good}
+use Rattle.demands.specs.History as history
+use Rattle.demands.specs.HistoryWithRow.{GoodWithRow, start, adding, resting, waking, otherwise}
+use Rattle.demands.specs.Demand3.{Demand3}
+use Rattle.demands.specs.DemandsWithRow.{SameTotal, Demand2WithRow}
+use Rattle.demands.proofs.GoodInduction.{nothing-changes}
+use Rattle.demands.proofs.Demand2.{demand-2}
+use Rattle.demands.proofs.Demand3.{demand-3}
+
+-- a total that is refused gives 0
+total-refused : (book : Book) (ring : List ℕ) (window : ℕ) → (refusalOf (totalCall book ring window) ≡ 0 → ⊥)
+    → resultOf (totalCall book ring window) .figure ≡ 0
+total-refused book ring window some =
+    ap (λ (f : Figure). f .figure)
+    (sym (result-refused (totalCall book ring window) refl some) ∙ total-hands-back book ring window (refusalOf (totalCall book ring window)))
+
+-- what every book kept with a row has
+pub record KeptWithRow (book : Book) (lent : RingAndRow) (items : List ℕ) : Type 0 where
+  pub good : Good book (lent .ring) items
+  pub room : entriesOf book ≤ length (lent .row)
+  pub kept : RowKept book (lent .ring) (lent .row)
+
+-- OPENING with the row
+opened-with-row : (bound n tolerance : ℕ) (lent : RingAndRow) → refusalOf (openRowCall bound n tolerance (lent .ring) (lent .row)) ≡ 0
+    → KeptWithRow (resultOf (openRowCall bound n tolerance (lent .ring) (lent .row)) .book) (leftOf (openRowCall bound n tolerance (lent .ring) (lent .row))) []
+opened-with-row bound n tolerance lent taken =
+    let beside = open-beside bound n tolerance (lent .ring) (lent .row) in
+    let same = beside .with-room (beside .had-room taken) in
+    let own = sym (same .same-refusal) ∙ taken in
+    let known = open-known bound n tolerance (lent .ring) own in
+    let gives = open-gives bound n tolerance (lent .ring) own in
+    let book-is = ap (λ (u : Updated). u .book) (same .same-result) in
+    let ring-is = same .same-ring in
+    let long = open-leaves-rest bound n tolerance (lent .ring) (lent .row) .same-length in
+    record {
+      good = rw (book-is, ring-is) (history.start bound n tolerance (lent .ring) own);
+      room = rw (book-is ∙ ap (λ (u : Updated). u .book) (gives .0), long) (beside .had-room taken);
+      kept = rw (book-is ∙ ap (λ (u : Updated). u .book) (gives .0), ring-is ∙ gives .1, beside .row-after taken)
+          (kept-by-opening bound n tolerance (lent .ring) (lent .row) (known .0) (known .1));
+    }
+
+-- AN ITEM with the row
+added-with-row : (book : Book) (lent : RingAndRow) (items : List ℕ) → KeptWithRow book lent items → (item : ℕ)
+    → refusalOf (addRowCall book (lent .ring) (lent .row) item) ≡ 0
+    → KeptWithRow (resultOf (addRowCall book (lent .ring) (lent .row) item) .book) (leftOf (addRowCall book (lent .ring) (lent .row) item)) (item ∷ items)
+added-with-row book lent items before item taken =
+    let beside = add-beside book (lent .ring) (lent .row) item in
+    let same = beside .with-room (before .room) in
+    let own = sym (same .same-refusal) ∙ taken in
+    let known = add-known book (lent .ring) item own in
+    let gives = add-gives book (lent .ring) item own in
+    let numbers = added-same book item in
+    let entries : entriesOf (added book item) ≡ entriesOf book =
+    λ i. entriesFor (slotCount (numbers .bound-same i) (numbers .length-same i) (numbers .tolerance-same i)) in
+    let book-is = ap (λ (u : Updated). u .book) (same .same-result) in
+    let ring-is = same .same-ring in
+    let long = add-leaves-rest book (lent .ring) (lent .row) item .same-length in
+    record {
+      good = rw (book-is, ring-is) (history.adding book (lent .ring) items (before .good) item own);
+      room = rw (book-is ∙ ap (λ (u : Updated). u .book) (gives .0), long, entries) (before .room);
+      kept = rw (book-is ∙ ap (λ (u : Updated). u .book) (gives .0), ring-is ∙ gives .1, beside .row-after taken)
+          (kept-by-adding book (lent .ring) (lent .row) item (known .0) (known .1) (before .room) (before .kept));
+    }
+
+-- ANOTHER MARK: it leaves ring and row
+marked-with-row : (book : Book) (lent : RingAndRow) (items : List ℕ) (mark : ℕ) → KeptWithRow book lent items → refusalOf (markCall book mark) ≡ 0
+    → Good (resultOf (markCall book mark) .book) (lent .ring) items → KeptWithRow (resultOf (markCall book mark) .book) lent items
+marked-with-row book lent items mark before taken good =
+    let book-is = ap (λ (u : Updated). u .book) (mark-gives book mark taken) in
+    record { good = good; room = rw book-is (before .room); kept = rw book-is (before .kept) }
+
+pub kept-with-row : (book : Book) (lent : RingAndRow) (items : List ℕ) → GoodWithRow book lent items → KeptWithRow book lent items
+kept-with-row book lent items (start bound n tolerance both taken) = opened-with-row bound n tolerance both taken
+kept-with-row book lent items (adding old both earlier good item taken) = added-with-row old both earlier (kept-with-row old both earlier good) item taken
+kept-with-row book lent items (resting old both same good taken) =
+    let before = kept-with-row old both same good in
+    marked-with-row old both same atRest before taken (history.resting old (both .ring) same (before .good) taken)
+kept-with-row book lent items (waking old both same good taken) =
+    let before = kept-with-row old both same good in
+    marked-with-row old both same awake before taken (history.waking old (both .ring) same (before .good) taken)
+kept-with-row book lent items (otherwise old both same good call upon idle) =
+    let unchanged = nothing-changes old both call upon idle in
+    rw (unchanged .0, unchanged .1) (kept-with-row old both same good)
+
+-- THE TOTAL BY A KEPT ROW IS THE WALK'S for every window, however the row came to be kept
+module _ (book : Book) (lent : RingAndRow) (room : entriesOf book ≤ length (lent .row)) (kept : RowKept book (lent .ring) (lent .row)) (window : ℕ) where
+  same-number : refusalOf (totalRowCall book (lent .ring) (lent .row) window) ≡ refusalOf (totalCall book (lent .ring) window)
+  same-number = total-beside book (lent .ring) (lent .row) window room
+
+  same-told : resultOf (totalRowCall book (lent .ring) (lent .row) window) .refusal ≡ resultOf (totalCall book (lent .ring) window) .refusal
+  same-told = total-row-number book (lent .ring) (lent .row) window ∙ same-number ∙ sym (total-number book (lent .ring) window)
+
+  pub same-total-kept : SameTotal book lent window
+  same-total-kept = by (ℕ-discrete (refusalOf (totalCall book (lent .ring) window)) 0)
+    where
+      by : Dec (refusalOf (totalCall book (lent .ring) window) ≡ 0) → SameTotal book lent window
+      by (yes taken) =
+          let usable = total-known book (lent .ring) window taken in
+          record {
+            same-refusal = same-told;
+            same-figure =
+                ap (λ (r : Summed). r .figure) (total-row-gives book (lent .ring) (lent .row) window (same-number ∙ taken))
+                ∙ figure-same book (lent .ring) (lent .row) (usable .0 .sound) kept window (usable .1)
+                ∙ sym (ap (λ (r : Figure). r .figure) (total-gives book (lent .ring) window taken));
+          }
+      by (no some) =
+          record {
+            same-refusal = same-told;
+            same-figure =
+                ap (λ (r : Summed). r .figure) (total-row-refused book (lent .ring) (lent .row) window (λ e. some (sym same-number ∙ e)))
+                ∙ sym (total-refused book (lent .ring) window some);
+          }
+
+module _ (book : Book) (lent : RingAndRow) (items : List ℕ) (with-row : GoodWithRow book lent items) where
+  abbrev known : KeptWithRow book lent items
+  known = kept-with-row book lent items with-row
+
+  -- A BOOK KEPT WITH A ROW is a good book, with the same items
+  pub good-without-row : Good book (lent .ring) items
+  good-without-row = known .good
+
+  -- and its row is kept
+  pub same-total : (window : ℕ) → SameTotal book lent window
+  same-total = same-total-kept book lent (known .room) (known .kept)
+
+  -- DEMAND 2 of its calls
+  pub demand-2-with-row : Demand2WithRow book lent items
+  demand-2-with-row window kept =
+      let plain = demand-2 book (lent .ring) items good-without-row window kept in
+      let same = same-total window in
+      record { not-refused = same .same-refusal ∙ plain .not-refused; bounds = rw (same .same-figure) (plain .bounds) }
+
+  -- DEMAND 3, as of any good book
+  pub demand-3-with-row : (v : ℕ) → 0 < v → Demand3 book (lent .ring) items v
+  demand-3-with-row = demand-3 book (lent .ring) items good-without-row

@@ -1,0 +1,121 @@
+"""A line of the vectors' format and its answer: what a call's arguments are read from, and how what it gives is written.
+
+Every call of model.py and row_model.py has its name here, and what it takes.
+"""
+
+import model
+import row_model
+
+MOST_BYTES = 32768
+# In a row, be it one of counts or one of sums.
+MOST_NUMBERS = 16384
+# The program's own limit: a line that fills its buffer of 600,000 bytes cannot be read.
+LONGEST_LINE = 599999
+
+
+class Unreadable(Exception):
+    """A line that no call can be read from."""
+
+
+def take_number(text):
+    """Digits alone, leading zeros allowed, below 2^64."""
+    if not text or any(c not in "0123456789" for c in text):
+        raise Unreadable
+    digits = text.lstrip("0") or "0"
+    if len(digits) > 20 or int(digits) >= 2**64:
+        raise Unreadable
+    return int(digits)
+
+
+def take_byte(text):
+    """A score's allowance is a byte: no refusal is for a larger one, so the line cannot be read."""
+    value = take_number(text)
+    if value > 255:
+        raise Unreadable
+    return value
+
+
+def take_bytes(text):
+    """Lower-case hex, two digits a byte, `-` for none; more than 32,768 bytes are not taken."""
+    if text == "-":
+        return b""
+    if not text or len(text) % 2 or len(text) > 2 * MOST_BYTES or any(c not in "0123456789abcdef" for c in text):
+        raise Unreadable
+    return bytes.fromhex(text)
+
+
+def take_record(text):
+    numbers = [take_number(part) for part in text.split(",")]
+    if len(numbers) != len(model.Record._fields):
+        raise Unreadable
+    return model.Record(*numbers)
+
+
+def take_counts(text):
+    """Numbers joined by commas, `-` for none; more than 16,384 are not taken."""
+    if text == "-":
+        return []
+    counts = [take_number(part) for part in text.split(",")]
+    if len(counts) > MOST_NUMBERS:
+        raise Unreadable
+    return counts
+
+
+def take_sums(text):
+    """As counts, but each of 32 bits: no refusal is for a larger one, so the line cannot be read."""
+    sums = take_counts(text)
+    if any(value >= 2**32 for value in sums):
+        raise Unreadable
+    return sums
+
+
+def show(value):
+    if isinstance(value, bytes):
+        return value.hex() or "-"
+    if isinstance(value, list):
+        return ",".join(str(number) for number in value) or "-"
+    if isinstance(value, model.Record):
+        return ",".join(str(number) for number in value)
+    return str(value)
+
+
+N, Y, A, R, C, S = take_number, take_bytes, take_byte, take_record, take_counts, take_sums
+
+CALLS = {
+    "ring_clear": (model.ring_clear, (N, N, Y)),
+    "ring_read": (model.ring_read, (N, N, Y, N)),
+    "ring_write": (model.ring_write, (N, N, Y, N, N)),
+    "ring_sum": (model.ring_sum, (N, N, Y, N, N)),
+    "open": (model.open_book, (N, N, N, Y)),
+    "add": (model.add, (R, Y, N)),
+    "run": (model.run, (R, Y, C)),
+    "rest": (model.rest, (R,)),
+    "wake": (model.wake, (R,)),
+    "total": (model.total, (R, Y, N)),
+    "far": (model.far, (R, Y, N)),
+    "verdict": (model.verdict, (R, Y, N, N)),
+    "open_row": (row_model.open_row, (N, N, N, Y, S)),
+    "add_row": (row_model.add_row, (R, Y, S, N)),
+    "run_row": (row_model.run_row, (R, Y, S, C)),
+    "total_row": (row_model.total_row, (R, Y, S, N)),
+    "pgm": (model.pgm, (Y,)),
+    "score": (model.score, (N, A, Y, Y)),
+    "shape": (model.shape, (N, N, N)),
+}
+
+
+def answer(line):
+    """The answer to one line, both without the line feed. A name is its own answer."""
+    if len(line) > LONGEST_LINE:
+        return "?"
+    if line.startswith("#"):
+        return line
+    fields = line.split(" ")
+    call, kinds = CALLS.get(fields[0], (None, ()))
+    if call is None or len(fields) != 1 + len(kinds):
+        return "?"
+    try:
+        arguments = [kind(text) for kind, text in zip(kinds, fields[1:])]
+    except Unreadable:
+        return "?"
+    return " ".join(show(value) for value in call(*arguments))
