@@ -10,11 +10,11 @@
  *     is aligned as its type asks;
  *   - while a call runs, nobody else writes those bytes, and bytes lent for writing overlap no others that are lent to that call.
  *
- * What you may leave to us: everything else. Any number, any record, any ring bytes, any row, any image and any length get an answer, and
- * every answer is proved to be the one that the library's definitions lay down (docs/SCOPE.md has them in words). A refusal comes as a
- * number above 0; then the other numbers of the answer are 0 (but for the place that comes with 7 of uprzezar_run and uprzezar_run_row),
- * the record is handed back as it came (opening hands back zeros), and no lent byte has changed. Where several refusals apply, the first
- * in the order given at the function is the one.
+ * What you may leave to us: everything else. Any number, any record, any ring bytes, any row, any image, any mask and any length get an
+ * answer, and every answer is proved to be the one that the library's definitions lay down (docs/SCOPE.md has them in words). A refusal
+ * comes as a number above 0; then the other numbers of the answer are 0 (but for the place that comes with 7 of uprzezar_run and
+ * uprzezar_run_row), the record is handed back as it came (opening hands back zeros), and no lent byte has changed. Where several refusals
+ * apply, the first in the order given at the function is the one.
  *
  * A book from a good start is one that uprzezar_open or uprzezar_open_row opened without a refusal; each call since has got the latest
  * record, and the ring as the last call left it, changed by nothing else (no call of the ring alone, no second book in it).
@@ -47,12 +47,12 @@ enum {
     UPRZEZAR_NOT_REACHED = 9,      /* no window that is kept reaches the amount */
     UPRZEZAR_RING_CALL = 10,       /* the ring's own calls: the width is not 1 to 16, the slots are not 1 to 4,096, there is no such slot,
                                       more slots are to be summed than the ring has, or a value takes more bits than the width */
-    UPRZEZAR_WRONG_BYTE = 11,      /* a wrong byte in an image's header, or a number without digits */
+    UPRZEZAR_WRONG_BYTE = 11,      /* a wrong byte in the header of an image or a mask, or a number without digits */
     UPRZEZAR_BAD_NUMBER = 12,      /* width or height is not 1 to 1,024, or maxval not 1 to 65,535 */
-    UPRZEZAR_IMAGE_TOO_LARGE = 13, /* the image takes more than 24,576 bytes */
-    UPRZEZAR_ENDS_TOO_EARLY = 14,  /* the image goes on behind the bytes lent */
+    UPRZEZAR_IMAGE_TOO_LARGE = 13, /* the image or the mask takes more than 24,576 bytes */
+    UPRZEZAR_ENDS_TOO_EARLY = 14,  /* the image or the mask goes on behind the bytes lent */
     UPRZEZAR_PIXEL_TOO_LARGE = 15, /* a pixel is above maxval */
-    UPRZEZAR_IMAGES_DIFFER = 16,   /* the two images have not the same width, height and maxval */
+    UPRZEZAR_IMAGES_DIFFER = 16,   /* the two images differ in width, height or maxval, or the mask has another width or height */
     UPRZEZAR_BOOK_RESTS = 17,      /* the book rests, and takes no items */
     UPRZEZAR_ROW_TOO_SHORT = 18    /* the row has fewer entries than the ring has groups of 32 slots, a last part of a group counted too */
 };
@@ -290,6 +290,17 @@ uprzezar_raster_place uprzezar_raster(const uint8_t *bytes, size_t count);
    255 is more than `allowance` times maxval. Refusals: 1, the first image's, the second's, 16. */
 uprzezar_answer uprzezar_score(uint64_t bound, uint8_t allowance, const uint8_t *first, size_t first_bytes, const uint8_t *second,
                                size_t second_bytes);
+
+/* Masks: binary PBM. `P4`, white space, width, white space, height, and a single white byte that delimits the raster; then row by row a bit
+   for each position, the top bit of a byte first, 1 for black. Each row is padded to a whole byte; padding bits may hold anything. Width and
+   height are 1 to 1,024, and header and raster take at most 24,576 bytes; bytes behind them are allowed. Behind `P4`, and before the
+   delimiter, a comment is ignored as in an image. */
+
+/* How many pixels changed at positions that are not black in the mask, but never above `bound`. Which pixels changed is as for
+   uprzezar_score. Refusals: 1, the first image's, the second's, the mask's own (11 to 14 in the order of its header's bytes, then 13, 14
+   for its raster), and 16 for images that differ in width, height or maxval, or a mask of another width or height. */
+uprzezar_answer uprzezar_score_masked(uint64_t bound, uint8_t allowance, const uint8_t *first, size_t first_bytes, const uint8_t *second,
+                                      size_t second_bytes, const uint8_t *mask, size_t mask_bytes);
 
 /* The ring alone: `slots` numbers of `width` bits, one after another from the top bit of byte 0. */
 

@@ -100,6 +100,7 @@ CALLS = {
     "total_row": (row_model.total_row, (R, Y, S, N)),
     "pgm": (model.pgm, (Y,)),
     "score": (model.score, (N, A, Y, Y)),
+    "score_mask": (model.score_mask, (N, A, Y, Y, Y)),
     "shape": (model.shape, (N, N, N)),
 }
 

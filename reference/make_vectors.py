@@ -16,6 +16,8 @@ import answers
 import book_calls
 import comment_calls
 import image_calls
+import mask_calls
+import mask_header_calls
 import other_lines
 import paper_cases
 import rest_calls
@@ -36,7 +38,7 @@ def sections():
     """Every section's name and calls, in order. Random ones have a seed each, so that a change in one leaves the others as they are."""
     yield "lines of the format", []
     of_books = (paper_cases, ring_calls, book_calls, run_calls, rest_calls, row_calls, row_lives, row_total_calls)
-    of_images = (image_calls, comment_calls, two_byte_calls, score_calls)
+    of_images = (image_calls, comment_calls, two_byte_calls, score_calls, mask_calls, mask_header_calls)
     for part in (*of_books, *of_images, other_lines):
         yield from part.sections()
 
@@ -49,7 +51,7 @@ def lines():
 
 
 def main():
-    faults = [*worked.faults(), *run_calls.faults(), *row_faults.faults()]
+    faults = [*worked.faults(), *run_calls.faults(), *row_faults.faults(), *mask_calls.faults()]
     faults += [f"no section is named {name}" for name in worked.FIGURES.keys() - dict(sections()).keys()]
     if faults:
         sys.exit("\n".join(faults))

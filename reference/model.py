@@ -317,7 +317,7 @@ NO_IMAGE = (0, 0, 0, 0, 0, 0)
 
 
 class Refused(Exception):
-    """The first fault of an image, with its number."""
+    """The first fault of an image, a mask or a score, with its number."""
 
 
 class Header:
@@ -343,7 +343,7 @@ class Header:
             self.at += 1
 
     def need(self, allowed):
-        """The next byte that is in no comment, if it is allowed here; before the two bytes of `P5` are taken there are no comments."""
+        """The next byte that is in no comment, if it is allowed here; before the two bytes of the sign are taken there are no comments."""
         if self.at >= 2:
             self.pass_comments()
         byte = self.here()
@@ -389,23 +389,34 @@ def pixels(raster, maxval):
     return [256 * high + low for high, low in zip(raster[0::2], raster[1::2])]
 
 
-def read_image(data):
-    """width, height, maxval, bytes used, where the raster starts, how many bytes it has; Refused if it is none."""
+def read_header(data, sign, tops):
+    """The numbers behind the sign, each from 1 up to its top, and where the raster starts; Refused if it is no header."""
     header = Header(data)
-    header.need(b"P")
-    header.need(b"5")
-    width = header.number(header.white_then_digit(), LARGEST_SIDE)
-    height = header.next_number(LARGEST_SIDE)
-    maxval = header.next_number(LARGEST_MAXVAL)
-    size = width * height * bytes_per_pixel(maxval)
-    used = header.at + size
+    for byte in sign:
+        header.need(bytes([byte]))
+    numbers = [header.number(header.white_then_digit(), tops[0])]
+    numbers += [header.next_number(top) for top in tops[1:]]
+    return numbers, header.at
+
+
+def bytes_used(data, start, size):
+    """Header and raster together; Refused if they are above the limit, or not all there."""
+    used = start + size
     if used > IMAGE_LIMIT:
         raise Refused(13)
     if used > len(data):
         raise Refused(14)
-    if max(pixels(data[header.at : used], maxval)) > maxval:
+    return used
+
+
+def read_image(data):
+    """width, height, maxval, bytes used, where the raster starts, how many bytes it has; Refused if it is none."""
+    (width, height, maxval), start = read_header(data, b"P5", (LARGEST_SIDE, LARGEST_SIDE, LARGEST_MAXVAL))
+    size = width * height * bytes_per_pixel(maxval)
+    used = bytes_used(data, start, size)
+    if max(pixels(data[start:used], maxval)) > maxval:
         raise Refused(15)
-    return width, height, maxval, used, header.at, size
+    return width, height, maxval, used, start, size
 
 
 def pgm(data):
@@ -416,21 +427,50 @@ def pgm(data):
         return (fault.args[0],) + NO_IMAGE
 
 
-def changed(first, second, allowance, maxval):
-    """How many pixels differ by more than the allowance, which is told in parts of 255: by more than allowance/255 of maxval."""
-    return sum(abs(x - y) * 255 > allowance * maxval for x, y in zip(first, second))
+def read_mask(data):
+    """width, height, and of every position in its order whether it is black; Refused if it is none. What pads a row is left out."""
+    (width, height), start = read_header(data, b"P4", (LARGEST_SIDE, LARGEST_SIDE))
+    row = ceil_div(width, 8)
+    used = bytes_used(data, start, row * height)
+    rows = [bits_of(data[at : at + row])[:width] for at in range(start, used, row)]
+    return width, height, [bit == "1" for bit in "".join(rows)]
+
+
+def read_pair(L, first, second):
+    """Both images, Refused by 1, the first one's faults and the second one's, in this order."""
+    if not 1 <= L <= LARGEST_BOUND:
+        raise Refused(1)
+    return read_image(first), read_image(second)
+
+
+def pixels_of(data):
+    _, _, maxval, used, start, _ = read_image(data)
+    return pixels(data[start:used], maxval)
+
+
+def moved(a, maxval, first, second):
+    """Of each position whether its pixels differ by more than the allowance, which is told in parts of 255: by more than a/255 of maxval."""
+    return [abs(x - y) * 255 > a * maxval for x, y in zip(pixels_of(first), pixels_of(second))]
 
 
 def score(L, a, first, second):
     """1, then the refusals of each image, then 16; at most L."""
-    if not 1 <= L <= LARGEST_BOUND:
-        return 1, 0
-    for image in (first, second):
-        refusal = pgm(image)[0]
-        if refusal:
-            return refusal, 0
-    one, two = read_image(first), read_image(second)
-    if one[:3] != two[:3]:
-        return 16, 0
-    maxval = one[2]
-    return 0, min(L, changed(pixels(first[one[4] : one[3]], maxval), pixels(second[two[4] : two[3]], maxval), a, maxval))
+    try:
+        one, two = read_pair(L, first, second)
+        if one[:3] != two[:3]:
+            raise Refused(16)
+    except Refused as fault:
+        return fault.args[0], 0
+    return 0, min(L, sum(moved(a, one[2], first, second)))
+
+
+def score_mask(L, a, first, second, mask):
+    """1, then the refusals of each image, then the mask's, then 16 for images or a mask that differ; at most L. Black positions do not count."""
+    try:
+        one, two = read_pair(L, first, second)
+        width, height, black = read_mask(mask)
+        if one[:3] != two[:3] or one[:2] != (width, height):
+            raise Refused(16)
+    except Refused as fault:
+        return fault.args[0], 0
+    return 0, min(L, sum(counts and not hidden for counts, hidden in zip(moved(a, one[2], first, second), black)))

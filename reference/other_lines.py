@@ -21,6 +21,9 @@ UNREADABLE = [
     *("pgm", "pgm ", "pgm -", "pgm 5", "pgm 50", "pgm 50 50", "pgm 5x", "ring_clear 1 8", "ring_clear 1 8 a5"),
     *("ring_clear 1 8 a5 0", "ring_read 1 8 a5", "ring_write 1 8 a5 0", "ring_sum 1 8 a5 0", "ring_sum 1 8 a5 0 1 1"),
     *("score 600 255 - -", "score 600 256 - -", f"score 600 {TOP} - -", "score 600 12 -", "score 0 256 - -"),
+    *("score_mask", "score_mask 600 255 - -", "score_mask 600 255 - - -", "score_mask 600 255 - - - -", "score_mask 600 256 - - -"),
+    *("score_mask 0 256 - - -", "score_mask 600 - - - -", "score_mask 600 12 5 - -", "score_mask 600 12 - 5 -", "score_mask 600 12 - - 5"),
+    *("score_mask 600 12 - - 5G", "score_mask 600 12 - - ", "score_masks 600 12 - - -", "score 600 12 - - -"),
 ]
 
 

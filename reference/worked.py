@@ -1,5 +1,5 @@
 """Figures worked by hand, as calls and answers: the cases A to G of docs/SCOPE.md, slots of one bit, books at rest, books with a row of sums,
-comments in headers, pixels of two bytes, and the lines of the vectors' format.
+comments in headers, pixels of two bytes, masks, and the lines of the vectors' format.
 
 The model is held to them each time the vectors are made. They stand first in the section of their name.
 """
@@ -22,6 +22,14 @@ LIT = b"P5# a longer one\r 2 2 255#\n\n" + bytes([20, 12, 13, 0])
 def pgm(*images):
     """Images with the answers to them; of a refused one the number alone is given."""
     return [(f"pgm {data.hex()}", f"{answer} 0 0 0 0 0 0" if isinstance(answer, int) else answer) for data, answer in images]
+
+
+def score_mask(width, height, masks, a=12, pixels=b"\xff"):
+    """A black image against one of these pixels, over and over, under each mask, with the answers; of a refused one the number alone is given."""
+    header, count = f"P5 {width} {height} 255\n".encode(), width * height
+    first, second = header + bytes(count), header + (pixels * count)[:count]
+    shown = ((data, f"{answer} 0" if isinstance(answer, int) else answer) for data, answer in masks)
+    return [(f"score_mask 600 {a} {first.hex()} {second.hex()} {answers.show(data)}", answer) for data, answer in shown]
 
 
 FIGURES = {
@@ -334,6 +342,34 @@ FIGURES = {
         (f"score 600 12 {DARK.hex()} {b'P5#c'.hex()}", "14 0"),
         (f"score 600 12 {b'P#'.hex()} {DARK.hex()}", "11 0"),
     ],
+    # Of the program's first two images the first and the third position moved; of the row of nine all did, and the last has a byte of its own.
+    "masks": [
+        *score_mask(
+            *(2, 2),
+            [
+                (b"P4 2 2\n\x3f\x3f", "0 2"),  # white, the padding black
+                (b"P4 2 2\n\x80\x00", "0 1"),
+                (b"P4 2 2\n\x40\x00", "0 2"),
+                (b"P4 2 2\n\x00\x80", "0 1"),
+                (b"P4 2 2\n\x00\x40", "0 2"),
+                (b"P4 2 2\n\xc0\xc0", "0 0"),
+            ],
+            pixels=bytes([20, 12, 13, 0]),
+        ),
+        *score_mask(9, 1, [(b"P4 9 1\n\0\x7f", "0 9"), (b"P4 9 1\n\x01\x80", "0 7"), (b"P4 9 1\n\xfe\xff", "0 1")]),
+    ],
+    # A row of 7 takes as many bytes as one of 8.
+    "masks: other sizes, and images that differ": score_mask(8, 1, [(b"P4 7 1\n\0", 16), (b"P4 8 2\n\0\0", 16), (b"P4 8 1\n\0", "0 8")]),
+    "masks: wrong bytes": score_mask(1, 1, [(b"P5 1 1 255\n\0", 11), (b"P41 1\n\0", 11), (b"P4 1025x", 11)]),
+    "masks: ends": score_mask(1, 1, [(b"", 14), (b"P4 1 1", 14), (b"P4 1 1\n", 14), (b"P4 1025", 14), (b"P4 1025 ", 12), (b"P4 1 0 ", 12)]),
+    # 85 · 289 is 24,565, and that header has 11 bytes. 128 · 192 is 24,576 without a header.
+    "masks: limits": score_mask(
+        *(1, 1), [(b"P4 680 289\n", 14), (b"P4  680 289\n", 13), (b"P4 681 289\n", 13), (b"P4 1024 191\n", 14), (b"P4 1024 192\n", 13)]
+    ),
+    # The width goes on behind the comment; a # behind the delimiter is 00100011.
+    "masks: comments": score_mask(
+        10, 1, [(b"P4 1#c\n0 1 \0\0", "0 10"), (b"P4 10 1#c\n\0\0", 11), (b"P4 10 1#c\r\n\0\0", "0 10"), (b"P4 10 1 ##", "0 7"), (b"P4 #", 14)]
+    ),
     # The numbers of cases A to D and of the program's setting, all five of each.
     "shapes": [
         ("shape 5 6 10", "0 2 3 1 1 1"),

@@ -1,5 +1,6 @@
 /* Case A of docs/SCOPE.md, through the header, item by item and as one run, its book at rest and with a row, larger books with a row, the
-   small pictures of its program, pictures of two bytes a pixel, and headers with comments; the shapes of its book and of the box's. */
+   small pictures of its program, pictures of two bytes a pixel, headers with comments, and pictures under masks; the shapes of its book and
+   of the box's. */
 #include "../include/uprzezar.h"
 
 #include <inttypes.h>
@@ -350,11 +351,16 @@ static void comments(void) {
 static void two_bytes(void) {
     static const uint8_t one[] = "P5 3 1 4095 \0\0\0\0\017\377";
     static const uint8_t two[] = "P5 3 1 4095 \0\300\0\301\017\77";
+    static const uint8_t black[] = "P4 3 1 \100";
+    static const uint8_t white[] = "P4 3 1 \277";
     uprzezar_raster_place p = uprzezar_raster(two, sizeof two);
     uprzezar_answer s = uprzezar_score(600, 12, one, sizeof one, two, sizeof two);
+    uprzezar_answer without = uprzezar_score_masked(600, 12, one, sizeof one, two, sizeof two, black, sizeof black);
+    uprzezar_answer alone = uprzezar_score_masked(600, 12, one, sizeof one, two, sizeof two, white, sizeof white);
     image(one, sizeof one);
     printf("raster: refusal %u, %zu bytes from %zu\n", p.refusal, p.length, p.offset);
-    printf("score: refusal %u, %" PRIu64 "\n", s.refusal, s.value);
+    printf("score: refusal %u, %" PRIu64 "; with its pixel black: refusal %u, %" PRIu64 "; with all others black: refusal %u, %" PRIu64 "\n",
+           s.refusal, s.value, without.refusal, without.value, alone.refusal, alone.value);
     IMAGE("P5 1 1 256 \1\0");
     IMAGE("P5 1 1 256 \1\1");
     IMAGE("P5 1 1 65535 \377\377");
@@ -371,6 +377,46 @@ static void pictures(void) {
     image(one, sizeof one);
     printf("raster: refusal %u, %zu bytes from %zu\n", p.refusal, p.length, p.offset);
     printf("score: refusal %u, %" PRIu64 "; of an image cut short: refusal %u, %" PRIu64 "\n", s.refusal, s.value, cut.refusal, cut.value);
+}
+
+/* Ten columns and two rows. All pixels change, but column 8 of the first row and column 9 of the second by no more than the allowance. The
+   second image comes as it should be, with another maxval, and with a pixel above its own. */
+static const uint8_t before[32] = "P5 10 2 255 ";
+static const uint8_t after[3][33] = {"P5 10 2 255 aaaaaaaa\014aaaaaaaaaa\014", "P5 10 2 254 ", "P5 10 2 9 \377"};
+
+/* A mask; where its text is shorter than the bytes that are lent, the others are 0. */
+typedef struct {
+    uint8_t bytes[24];
+    size_t count;
+} mask;
+
+static uprzezar_answer under(const mask *m, uint64_t bound, const uint8_t second[33]) {
+    return uprzezar_score_masked(bound, 12, before, sizeof before, second, 33, m->bytes, m->count);
+}
+
+static void masks(void) {
+    static const mask tried[] = {
+        {"P4 10 2\n", 12},                      /* all white */
+        {"P4 10 2\n\377\377\377\377", 12},      /* all black */
+        {"P4 10 2\n\0\77\0\77", 12},            /* all white, with padding of ones */
+        {"P4 10 2\n\200\177\1\200", 14},        /* black in columns 0 and 9 of the first row, 7 and 8 of the second; two bytes behind */
+        {"P4\n# trees\n10#\r 2\n\377\300", 22}, /* with comments; the first row is black */
+        {"P4 10 2\n", 11},                      /* cut short */
+        {"P4 16 2\n", 12},                      /* of another width that takes as many bytes */
+        {"P4 10 1\n", 12},                      /* of another height */
+        {"P5 10 2 255 ", 24},                   /* an image in the place of a mask */
+        {"P4 10 1025\n", 24},                   /* too high */
+        {"P4 1024 1024\n", 24},                 /* too large, and cut short */
+    };
+    uprzezar_answer s = uprzezar_score(600, 12, before, sizeof before, after[0], sizeof after[0]);
+    size_t i;
+    printf("without a mask: refusal %u, %" PRIu64 "\n", s.refusal, s.value);
+    for (i = 0; i < sizeof tried / sizeof *tried; i++) {
+        s = under(&tried[i], 600, after[0]);
+        printf("mask %zu: refusal %u, %" PRIu64 "; with bound 9: %" PRIu64, i + 1, s.refusal, s.value, under(&tried[i], 9, after[0]).value);
+        printf("; refusals of images that differ: %u, of a bad one: %u, with bound 0: %u\n", under(&tried[i], 600, after[1]).refusal,
+               under(&tried[i], 600, after[2]).refusal, under(&tried[i], 0, after[2]).refusal);
+    }
 }
 
 static void slots(void) {
@@ -393,6 +439,7 @@ int main(void) {
     pictures();
     two_bytes();
     comments();
+    masks();
     slots();
     return 0;
 }

@@ -267,6 +267,17 @@ fn score_case(cases: &mut Vec<Case>, what: &str, kind: Kind) {
     });
 }
 
+fn masked_case(cases: &mut Vec<Case>, what: &str, kind: Kind, mask: Vec<u8>) {
+    let pair = [kind.picture(1), kind.picture(2)];
+    let ([one_a, two_a], mask_a) = (pair.clone(), mask.clone());
+    let [one_b, two_b] = pair;
+    cases.push(Case {
+        name: format!("masked score of {what}"),
+        plain: repeated(move || score::masked(black_box(600), black_box(12), &one_a, &two_a, &mask_a)),
+        proved: repeated(move || proved::masked(black_box(600), black_box(12), &one_b, &two_b, &mask)),
+    });
+}
+
 fn picture_cases(cases: &mut Vec<Case>) {
     let darker = Kind { maxval: 200, ..ONE_BYTE };
     let commented = ONE_BYTE.picture_with("# made by a viewer\n", &mut Chance::new(1));
@@ -277,6 +288,10 @@ fn picture_cases(cases: &mut Vec<Case>) {
     score_case(cases, "160 x 120", ONE_BYTE);
     score_case(cases, "160 x 120, maxval 200", darker);
     score_case(cases, "120 x 90, maxval 4,095", TWO_BYTES);
+    masked_case(cases, "160 x 120, a painted mask", ONE_BYTE, ONE_BYTE.painted_mask());
+    masked_case(cases, "160 x 120, a mask of chance", ONE_BYTE, ONE_BYTE.mask_of_chance(3));
+    masked_case(cases, "160 x 120, a white mask", ONE_BYTE, ONE_BYTE.white_mask());
+    masked_case(cases, "120 x 90, maxval 4,095, a painted mask", TWO_BYTES, TWO_BYTES.painted_mask());
 }
 
 pub fn all() -> Vec<Case> {

@@ -1,4 +1,4 @@
-//! Pictures made by chance, of one byte a pixel and of two.
+//! Pictures made by chance, of one byte a pixel and of two, and masks for them.
 
 use crate::chance::Chance;
 
@@ -45,5 +45,42 @@ impl Kind {
 
     pub fn picture(self, seed: u64) -> Vec<u8> {
         self.picture_with("", &mut Chance::new(seed))
+    }
+
+    /// A mask that is black at these columns and rows.
+    fn mask(self, mut black: impl FnMut(u64, u64) -> bool) -> Vec<u8> {
+        let Kind { width, height, .. } = self;
+        let mut mask = format!("P4\n{width} {height}\n").into_bytes();
+        for row in 0..height {
+            for left in (0..width).step_by(8) {
+                let bits = (left..left + 8).map(|column| column < width && black(column, row));
+                mask.push(bits.fold(0, |byte, bit| byte << 1 | u8::from(bit)));
+            }
+        }
+        mask
+    }
+
+    pub fn white_mask(self) -> Vec<u8> {
+        self.mask(|_, _| false)
+    }
+
+    /// Every position is black or white by chance.
+    pub fn mask_of_chance(self, seed: u64) -> Vec<u8> {
+        let mut chance = Chance::new(seed);
+        self.mask(|_, _| chance.one_in(2))
+    }
+
+    /// The sky, down to an uneven edge, and the crowns and trunks of two trees.
+    pub fn painted_mask(self) -> Vec<u8> {
+        let Kind { width, height, .. } = self;
+        let crown = width / 9;
+        self.mask(|column, row| {
+            let sky = height / 4 + (column % 26).abs_diff(13) / 3;
+            let tree = |middle: u64| {
+                let (aside, off) = (column.abs_diff(middle), row.abs_diff(height / 2));
+                aside * aside + off * off < crown * crown || aside < 3 && row > height / 2
+            };
+            row < sky || tree(width / 5) || tree(width * 5 / 7)
+        })
     }
 }

@@ -127,6 +127,16 @@ extern "C" {
     fn uprzezar_header(bytes: *const u8, count: usize) -> Numbers;
     fn uprzezar_raster(bytes: *const u8, count: usize) -> RasterPlace;
     fn uprzezar_score(bound: u64, allowance: u8, first: *const u8, ones: usize, second: *const u8, twos: usize) -> Answer;
+    fn uprzezar_score_masked(
+        bound: u64,
+        allowance: u8,
+        first: *const u8,
+        ones: usize,
+        second: *const u8,
+        twos: usize,
+        mask: *const u8,
+        masks: usize,
+    ) -> Answer;
 }
 
 // A slice is all that the header asks of its callers: a pointer that is not null, aligned, with a length, and no other writer.
@@ -210,4 +220,9 @@ pub fn raster(bytes: &[u8]) -> RasterPlace {
 
 pub fn score(bound: u64, allowance: u8, first: &[u8], second: &[u8]) -> Answer {
     unsafe { uprzezar_score(bound, allowance, first.as_ptr(), first.len(), second.as_ptr(), second.len()) }
+}
+
+pub fn masked(bound: u64, allowance: u8, first: &[u8], second: &[u8], mask: &[u8]) -> Answer {
+    let [(one, ones), (two, twos), (bits, masks)] = [first, second, mask].map(|bytes| (bytes.as_ptr(), bytes.len()));
+    unsafe { uprzezar_score_masked(bound, allowance, one, ones, two, twos, bits, masks) }
 }

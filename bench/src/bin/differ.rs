@@ -460,7 +460,7 @@ fn comment(chance: &mut Chance) -> Vec<u8> {
     comment
 }
 
-/// Puts one comment or up to three into a header that ends with maxval, anywhere behind its first two bytes.
+/// Puts one comment or up to three into a header that ends with its last number, anywhere behind its first two bytes.
 fn put_comments(chance: &mut Chance, header: &mut Vec<u8>) {
     let mut places: Vec<u64> = (0..1 + chance.below(3)).map(|_| 2 + chance.below(header.len() as u64 - 1)).collect();
     // from the last place on, so that none comes to lie within another
@@ -469,6 +469,25 @@ fn put_comments(chance: &mut Chance, header: &mut Vec<u8>) {
         let place = place as usize;
         header.splice(place..place, comment(chance));
     }
+}
+
+/// A header with this sign and these numbers.
+fn header_with(chance: &mut Chance, sign: &[u8], numbers: &[u64]) -> Vec<u8> {
+    let mut header = sign.to_vec();
+    for &number in numbers {
+        whites(chance, &mut header);
+        numeral(chance, &mut header, number);
+    }
+    if chance.one_in(3) {
+        put_comments(chance, &mut header);
+    }
+    if chance.one_in(500) {
+        // a header that comes to the limit, by the zeros of its width or of a comment
+        let zeros = 24576 - 16 + chance.below(20) as usize - header.len();
+        header.splice(3..3, std::iter::repeat(b'0').take(zeros));
+    }
+    header.push(chance.pick(b" \t\r\n"));
+    header
 }
 
 /// The number that bytes write, the highest first.
@@ -485,22 +504,7 @@ fn stepped(chance: &mut Chance, old: u64, apart: u64, maxval: u64) -> u64 {
 
 /// An image with these numbers and, where `like` has as many pixels, with those, some of them changed, by about `apart` or at will.
 fn picture(chance: &mut Chance, width: u64, height: u64, maxval: u64, like: &[u8], apart: u64) -> Vec<u8> {
-    let mut image = b"P5".to_vec();
-    whites(chance, &mut image);
-    numeral(chance, &mut image, width);
-    whites(chance, &mut image);
-    numeral(chance, &mut image, height);
-    whites(chance, &mut image);
-    numeral(chance, &mut image, maxval);
-    if chance.one_in(3) {
-        put_comments(chance, &mut image);
-    }
-    if chance.one_in(500) {
-        // a header that comes to the limit, by the zeros of its width or of a comment
-        let zeros = 24576 - 16 + chance.below(20) as usize - image.len();
-        image.splice(3..3, std::iter::repeat(b'0').take(zeros));
-    }
-    image.push(chance.pick(b" \t\r\n"));
+    let mut image = header_with(chance, b"P5", &[width, height, maxval]);
     let bytes = pixel_bytes(maxval);
     let pixels = width.saturating_mul(height).min(26_000 / bytes as u64) as usize;
     let most = if bytes == 1 { 255 } else { 65535 };
@@ -519,12 +523,35 @@ fn picture(chance: &mut Chance, width: u64, height: u64, maxval: u64, like: &[u8
     image
 }
 
+/// A mask with these numbers, for the most part: white, black, mostly one of the two, or of chance, its padding too.
+fn painted(chance: &mut Chance, width: u64, height: u64) -> Vec<u8> {
+    let (width, height) = match chance.below(16) {
+        0 => (width.wrapping_add(1), height),
+        1 => (width.wrapping_sub(1), height.wrapping_add(1)),
+        2 => (width, height.wrapping_add(1)),
+        3 => (width.div_ceil(8).wrapping_mul(8), height),
+        4 if chance.one_in(16) => (1024, 190 + chance.below(4)),
+        _ => (width, height),
+    };
+    let mut mask = header_with(chance, b"P4", &[width, height]);
+    let kind = chance.below(8);
+    let most = chance.pick(&[0, 0, 0xff]);
+    let bytes = width.div_ceil(8).saturating_mul(height).min(26_000);
+    mask.extend((0..bytes).map(|_| match kind {
+        0 => 0,
+        1 => 0xff,
+        2..=4 if !chance.one_in(4) => most,
+        _ => chance.next() as u8,
+    }));
+    mask
+}
+
 fn damage(chance: &mut Chance, image: &mut Vec<u8>) {
     match chance.below(8) {
         0 => image.truncate(chance.below(image.len() as u64 + 1) as usize),
         1 => {
             let at = chance.below(20).min(image.len() as u64 - 1) as usize;
-            image[at] = chance.pick(b"##P56 0\r\n\x0c\x0b\x00\xff9");
+            image[at] = chance.pick(b"##P456 0\r\n\x0c\x0b\x00\xff9");
         }
         2 => image.extend(chance.bytes(5)),
         3 => {
@@ -533,6 +560,24 @@ fn damage(chance: &mut Chance, image: &mut Vec<u8>) {
         }
         4 => image.truncate(chance.below(40) as usize),
         _ => {}
+    }
+}
+
+/// An image's numbers and where its raster lies, by the plain version.
+fn read(bytes: &[u8]) -> (proved::Numbers, proved::RasterPlace) {
+    match image::header(bytes) {
+        Ok(image::Image { width, height, maxval, used, raster }) => {
+            let start = used - raster.len();
+            let inside = raster.as_ptr() == bytes[start..].as_ptr();
+            assert!(inside, "the plain raster is a part of the slice");
+            let place = proved::RasterPlace { refusal: 0, offset: start, length: raster.len() };
+            (proved::Numbers { refusal: 0, width, height, maxval, start, used }, place)
+        }
+        Err(refusal) => {
+            let refusal = refusal as u8;
+            let place = proved::RasterPlace { refusal, offset: 0, length: 0 };
+            (proved::Numbers { refusal, ..Default::default() }, place)
+        }
     }
 }
 
@@ -558,36 +603,27 @@ fn image_calls(chance: &mut Chance, t: &mut [Tally]) {
     let mut second = picture(chance, other_width, height, other_maxval, &first, apart);
     damage(chance, &mut first);
     damage(chance, &mut second);
+    let mut mask = painted(chance, width, height);
+    if chance.one_in(2) {
+        damage(chance, &mut mask);
+    }
     let bound = if chance.one_in(2) { near(chance, 65535) } else { near(chance, 40) };
-    let call = || format!("bound {bound}, allowance {allowance}, {first:02x?}, {second:02x?}");
+    let call = || format!("bound {bound}, allowance {allowance}, {first:02x?}, {second:02x?}, mask {mask:02x?}");
 
-    let result = image::header(&first);
-    let (p, place) = match result {
-        Ok(image) => {
-            let image::Image { width, height, maxval, used, raster } = image;
-            let start = used - raster.len();
-            let inside = raster.as_ptr() == first[start..].as_ptr();
-            assert!(inside, "the plain raster is a part of the slice");
-            let place = proved::RasterPlace { refusal: 0, offset: start, length: raster.len() };
-            (proved::Numbers { refusal: 0, width, height, maxval, start, used }, place)
-        }
-        Err(refusal) => {
-            let refusal = refusal as u8;
-            let place = proved::RasterPlace { refusal, offset: 0, length: 0 };
-            (proved::Numbers { refusal, ..Default::default() }, place)
-        }
-    };
+    let (p, place) = read(&first);
     same(&mut t[0], p.refusal, p, proved::header(&first), call);
     same(&mut t[1], p.refusal, place, proved::raster(&first), call);
     let p = number(score::score(bound, allowance, &first, &second));
     same(&mut t[2], p.refusal, p, proved::score(bound, allowance, &first, &second), call);
+    let p = number(score::masked(bound, allowance, &first, &second, &mask));
+    same(&mut t[3], p.refusal, p, proved::masked(bound, allowance, &first, &second, &mask), call);
 }
 
 fn main() {
     let rounds: u64 = std::env::args().nth(1).map_or(1_000_000, |n| n.parse().expect("a number of rounds"));
     let names = [
         "ring_clear", "ring_read", "ring_write", "ring_sum", "shape", "open", "add", "total", "far", "verdict", "rest", "wake", "run",
-        "header", "raster", "score", "open_row", "add_row", "total_row", "run_row",
+        "header", "raster", "score", "masked", "open_row", "add_row", "total_row", "run_row",
     ];
     let mut tallies = names.map(|name| Tally { name, counts: [0; 19] });
     let mut chance = Chance::new(2026);
@@ -597,10 +633,10 @@ fn main() {
         open_call(&mut chance, &mut tallies[5]);
         book_calls(&mut chance, &mut tallies[6..12]);
         run_call(&mut chance, &mut tallies[12]);
-        image_calls(&mut chance, &mut tallies[13..16]);
-        open_row_call(&mut chance, &mut tallies[16]);
-        row_calls(&mut chance, &mut tallies[17..19]);
-        run_row_call(&mut chance, &mut tallies[19]);
+        image_calls(&mut chance, &mut tallies[13..17]);
+        open_row_call(&mut chance, &mut tallies[17]);
+        row_calls(&mut chance, &mut tallies[18..20]);
+        run_row_call(&mut chance, &mut tallies[20]);
     }
     one_bit_sums(&mut chance, &mut tallies[3]);
     let calls: u64 = tallies.iter().flat_map(|tally| tally.counts).sum();

@@ -1,4 +1,4 @@
-//! The reader of binary PGM images.
+//! The readers of binary PGM images and of masks, which are binary PBM.
 
 use super::Refusal;
 
@@ -11,6 +11,14 @@ pub struct Image<'a> {
     pub height: usize,
     pub maxval: usize,
     pub used: usize,
+    pub raster: &'a [u8],
+}
+
+/// A mask that was accepted: a bit for each position, rows padded to a whole byte.
+#[derive(Clone, Copy, Debug, PartialEq, Eq)]
+pub struct Mask<'a> {
+    pub width: usize,
+    pub height: usize,
     pub raster: &'a [u8],
 }
 
@@ -40,9 +48,9 @@ impl Cursor<'_> {
         Ok(byte)
     }
 
-    /// `P5`, in which no comment can begin, and a white byte.
-    fn kind(&mut self) -> Result<(), Refusal> {
-        for letter in *b"P5" {
+    /// `P` and this sign, in which no comment can begin, and a white byte.
+    fn kind(&mut self, sign: u8) -> Result<(), Refusal> {
+        for letter in [b'P', sign] {
             if self.take()? != letter {
                 return Err(Refusal::WrongByte);
             }
@@ -85,22 +93,39 @@ pub(super) fn pairs(raster: &[u8]) -> impl Iterator<Item = u16> + '_ {
     raster.chunks_exact(2).map(|pair| u16::from_be_bytes(pair.try_into().expect("two bytes")))
 }
 
-#[inline(never)]
-pub fn header(bytes: &[u8]) -> Result<Image<'_>, Refusal> {
+/// A header of this sign up to its height: width, height and what stands behind them.
+fn sides(bytes: &[u8], sign: u8) -> Result<(usize, usize, Cursor<'_>), Refusal> {
     let mut cursor = Cursor { bytes: &bytes[..bytes.len().min(LIMIT)], at: 0 };
-    cursor.kind()?;
+    cursor.kind(sign)?;
     let width = cursor.number(1024)?;
     let height = cursor.number(1024)?;
-    let maxval = cursor.number(65535)?;
-    let wide = is_wide(maxval);
-    let used = cursor.at + width * height * if wide { 2 } else { 1 };
-    if used > LIMIT {
+    Ok((width, height, cursor))
+}
+
+/// So many bytes behind the header, which ends at `start`.
+fn raster(bytes: &[u8], start: usize, size: usize) -> Result<&[u8], Refusal> {
+    if start + size > LIMIT {
         return Err(Refusal::ImageTooLarge);
     }
-    let raster = bytes.get(cursor.at..used).ok_or(Refusal::EndsTooEarly)?;
+    bytes.get(start..start + size).ok_or(Refusal::EndsTooEarly)
+}
+
+#[inline(never)]
+pub fn header(bytes: &[u8]) -> Result<Image<'_>, Refusal> {
+    let (width, height, mut cursor) = sides(bytes, b'5')?;
+    let maxval = cursor.number(65535)?;
+    let wide = is_wide(maxval);
+    let raster = raster(bytes, cursor.at, width * height * if wide { 2 } else { 1 })?;
     let largest = if wide { pairs(raster).max() } else { raster.iter().copied().max().map(u16::from) };
     if largest.map_or(false, |pixel| usize::from(pixel) > maxval) {
         return Err(Refusal::PixelTooLarge);
     }
-    Ok(Image { width, height, maxval, used, raster })
+    Ok(Image { width, height, maxval, used: cursor.at + raster.len(), raster })
+}
+
+#[inline(never)]
+pub fn mask(bytes: &[u8]) -> Result<Mask<'_>, Refusal> {
+    let (width, height, cursor) = sides(bytes, b'4')?;
+    let raster = raster(bytes, cursor.at, width.div_ceil(8) * height)?;
+    Ok(Mask { width, height, raster })
 }

@@ -4,5 +4,6 @@ pub mod Parts
 pub mod Words
 pub mod Replaced
 pub mod Through
+pub mod BitOfByte
 pub mod Zeros
 pub mod Promises

@@ -39,3 +39,5 @@ pub use Rattle.bits.proofs.Through.{Spans, patched}
 pub use Rattle.bits.proofs.Through.{read-word}
 -- and put into it
 pub use Rattle.bits.proofs.Through.{write-word}
+-- BITS. A bit of a row is a digit of the byte that it stands in, the top one first
+pub use Rattle.bits.proofs.BitOfByte.{bit-of-byte}

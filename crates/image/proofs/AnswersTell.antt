@@ -156,7 +156,7 @@ field-link {B} refused k s before after test tests e =
         andThen refused (numberFields (endOf s) tests used rest) λ values used rest. k (before .value) (second ∷ values) used rest
 
 -- what is made of a reading goes by the answer for its sign
-pub reading-told : {B : Type 0} (make : Reading → B) (kind : Kind) (s : List ℕ) (signed : Took)
+reading-told : {B : Type 0} (make : Reading → B) (kind : Kind) (s : List ℕ) (signed : Took)
     → told s signed ≡ magic (endOf s) (kind .sign) (ahead s 0)
     → make (readingOf kind s)
     ≡ andThen (λ refusal. make (refusedReading refusal)) (told s signed) λ sign used rest.
@@ -167,3 +167,26 @@ reading-told {B} make kind s signed e =
     rw e (then-made make refusedReading (headerOf kind s) (λ numbers start rest. withRaster kind s numbers start)
     ∙ then-then (λ refusal. make (refusedReading refusal)) (magic (endOf s) (kind .sign) (ahead s 0))
     (λ sign used rest. numberFields (endOf s) (kind .tests) used rest) (λ numbers start rest. make (withRaster kind s numbers start)))
+
+-- and where two numbers come first, which are the width and the height, by the answers for them
+pub sides-told : {B : Type 0} (make : Reading → B) (kind : Kind) (s : List ℕ) (signed width height : Took) (first second : Test) (tests : List Test)
+    → kind .tests ≡ first ∷ second ∷ tests
+    → told s signed ≡ magic (endOf s) (kind .sign) (ahead s 0)
+    → told s width ≡ andThen stopped (told s signed) (λ value used rest. numberField (endOf s) first rest)
+    → told s height ≡ andThen stopped (told s width) (λ value used rest. numberField (endOf s) second rest)
+    → make (readingOf kind s)
+    ≡ andThen (λ refusal. make (refusedReading refusal)) (told s height) λ value used rest.
+    andThen (λ refusal. make (refusedReading refusal)) (numberFields (endOf s) tests used rest) λ numbers start rest.
+    make (withRaster kind s (width .value ∷ value ∷ numbers) start)
+sides-told {B} make kind s signed width height first second tests are sign-is width-is height-is =
+    reading-told make kind s signed sign-is
+    ∙ ap (λ (all : List Test). andThen refused (told s signed) λ sign used rest.
+    andThen refused (numberFields (endOf s) all used rest) λ numbers start rest. raster numbers start) are
+    ∙ field-link refused (λ value numbers start rest. raster numbers start) s signed width first (second ∷ tests) width-is
+    ∙ field-link refused (λ value numbers start rest. raster (value ∷ numbers) start) s width height second tests height-is
+  where
+    refused : ℕ → B
+    refused refusal = make (refusedReading refusal)
+
+    raster : List ℕ → ℕ → B
+    raster numbers start = make (withRaster kind s numbers start)

@@ -39,5 +39,6 @@ pub mod LastTest
 pub mod ReadAsOneByte
 pub mod OwnLines
 pub mod RoundTrip
+pub mod MaskReading
 pub mod Promises
 pub mod CommentsAtEdges

@@ -1,33 +1,34 @@
 -- What crates above may rely on, beside the definitions of specs/: what an accepted image is, where its raster lies, which of its bytes
--- are which pixel, and that an answer stays when more bytes come.
+-- are which pixel, and that an answer stays when more bytes come; and the same of a mask.
 -- Assumes nothing.
 use Prim.Native.Nat.{ℕ, _*_, _-_, _/_, _≤_, _<_}
 use mathlib.Core.List.{List}
 use mathlib.Core.Path.{_≡_, refl, _∙_}
 use native.Mathlib.Omega.{arith}
 use native.Mathlib.Nat.{mul-div-cancel}
-use lib.ListN.{length, drop, length-drop}
-use lib.Seq.{length-take-le}
+use lib.ListN.{length}
 use Rattle.image.specs.Tests.{upTo}
 use Rattle.image.specs.Seen.{limit}
 use Rattle.image.specs.Pixels.{pixelBytes, pixelAt}
 use Rattle.image.specs.Kinds.{pgm, largestMaxval}
 use Rattle.image.specs.Format.{AllPass}
 use Rattle.image.specs.Reading.{readingOf, numbersOf, rasterIn, positionsOf, pixelOf}
-use Rattle.image.proofs.PixelWidths.{pixel-bytes-range}
 use Rattle.image.proofs.FieldsOfBytes.{up-to-range}
 use Rattle.image.proofs.HeadedSlices.{headed-some}
 use Rattle.image.proofs.ReadAsOneByte.{maxval-passes}
+use Rattle.image.proofs.ReadingLies.{lies-length}
 use Rattle.image.proofs.ExactReading.{image-headed, image-used}
-pub use Rattle.image.proofs.PixelValues.{pixel-one, pixel-part}
-pub use Rattle.image.proofs.PixelWidths.{pixel-bytes-one, pixel-bytes-two}
+pub use Rattle.image.proofs.PixelValues.{pixel-one, pixel-within, pixel-part}
+pub use Rattle.image.proofs.PixelWidths.{pixel-bytes-one, pixel-bytes-two, pixel-bytes-range}
 pub use Rattle.image.proofs.ReadAsOneByte.{numbers-as-one-byte}
 pub use Rattle.image.proofs.ReadingLies.{reading-lies}
-pub use Rattle.image.proofs.Demand1.{refused-all-zero, header-result}
+pub use Rattle.image.proofs.Demand1.{refused-all-zero, mask-all-zero, header-result}
 pub use Rattle.image.proofs.RefusalRange.{refusal-range, waits-short}
 pub use Rattle.image.proofs.ExactReading.{accepted-is-pgm, pgm-is-accepted, pgm-pixels}
 pub use Rattle.image.proofs.FirstFaultDecides.{pgm-first-fault, pgm-fault-refused}
 pub use Rattle.image.proofs.PrefixLaw.{prefix-law, accepted-stays}
+pub use Rattle.image.proofs.MaskReading.{accepted-is-mask, mask-is-accepted, mask-first-fault, mask-fault-refused, mask-refusal-range}
+pub use Rattle.image.proofs.MaskReading.{mask-prefix-law, mask-lies, mask-length, mask-sides}
 
 module _ (s : List ℕ) (taken : numbersOf s .refusal ≡ 0) where
   -- the numbers of an accepted image pass their tests
@@ -49,11 +50,7 @@ module _ (s : List ℕ) (taken : numbersOf s .refusal ≡ 0) where
 
 -- the raster lies in the slice whole …
 raster-fits : (s : List ℕ) → length (rasterIn s) ≡ numbersOf s .used - numbersOf s .start
-raster-fits s =
-    let n = numbersOf s in
-    let lies = reading-lies s in
-    let fits : n .used - n .start ≤ length (drop (n .start) s) = rw (length-drop (n .start) s) (omega (arith, lies .order, lies .there)) in
-    length-take-le (n .used - n .start) (drop (n .start) s) fits
+raster-fits s = lies-length s (reading-lies s)
 
 -- … and has no more bytes than an image may have
 pub raster-within : (s : List ℕ) → length (rasterIn s) ≤ limit

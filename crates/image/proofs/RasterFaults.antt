@@ -1,18 +1,21 @@
--- What the faults of a raster make of a header, for an image of any kind: one equation for each of the four outcomes, and all of them
--- together.
+-- What the faults of a raster make of a header, for an image of any kind: one equation for each of the four outcomes, all of them together,
+-- and what the number that its end gives decides.
 -- Assumes nothing.
 use Prim.Native.Nat.{ℕ, _≤_, _<_}
 use mathlib.Core.Bool.{Bool, true, false}
 use mathlib.Core.List.{List}
-use mathlib.Core.Path.{_≡_, refl}
+use mathlib.Core.Path.{_≡_, refl, sym, ap, _∙_}
 use borrow.Author.Tests.{lt-ltb, le-ltb, ltb-true, ltb-false}
 use lib.Dec.{ltb}
 use lib.ListN.{length}
 use Rattle.refusals.specs.Numbers.{imageTooLarge, endsTooEarly, pixelTooLarge}
+use Rattle.refusals.specs.First.{firstOf}
+use Rattle.refusals.proofs.Laws.{first-stops, refused-keeps}
+use Rattle.refusals.proofs.Calls.{written-out, nothing-holds}
 use Rattle.image.specs.Seen.{limit}
 use Rattle.image.specs.Pixels.{atSome}
 use Rattle.image.specs.Kinds.{Kind}
-use Rattle.image.specs.Reading.{Reading, refusedReading, usedWith, rasterAt, rasterRefusal, withRaster}
+use Rattle.image.specs.Reading.{Reading, refusedReading, usedWith, rasterAt, sizeFaults, pixelFaults, rasterRefusal, withRaster, named}
 
 -- whether a position of the raster is at fault
 abbrev pub someFaulty : Kind → List ℕ → List ℕ → ℕ → Bool
@@ -67,3 +70,21 @@ module _ (kind : Kind) (s numbers : List ℕ) (start : ℕ) where
       by₁ : (b : Bool) → ltb limit used ≡ b → P (withRaster kind s numbers start)
       by₁ true e = let h = ltb-true limit used e in rw (raster-over h) (over h)
       by₁ false e = by₂ (ltb-false limit used e) (ltb (length s) used) refl
+
+  -- a number that its end gives is the refusal …
+  pub raster-missing : {n : ℕ} → n ≡ firstOf (sizeFaults kind s numbers start) → (n ≡ 0 → ⊥) → withRaster kind s numbers start ≡ refusedReading n
+  unfolding withRaster rasterRefusal
+  raster-missing {n} e ne =
+      let first = first-stops (sizeFaults kind s numbers start) (pixelFaults kind s numbers start) n e ne in
+      refused-keeps (rasterRefusal kind s numbers start) _ _ first ne ∙ ap refusedReading (sym first)
+
+  -- … and where it gives none the raster is there
+  pub raster-there : firstOf (sizeFaults kind s numbers start) ≡ 0 → (usedWith kind numbers start ≤ limit) × (usedWith kind numbers start ≤ length s)
+  raster-there e =
+      let faults = sizeFaults kind s numbers start in
+      let none = nothing-holds faults (written-out faults tt) e in
+      (ltb-false limit _ (none .0), ltb-false (length s) _ (none .1 .0))
+
+-- what is decided, by name
+pub answers : {answer decided : Reading} → decided ≡ answer → named answer ≡ named decided
+answers e = ap named (sym e)

@@ -1,11 +1,13 @@
 -- Every reading, of an image of any kind: refused with nothing but its refusal, or taken with a raster of the size that its numbers say;
 -- and the part that it names lies in the slice.
 -- Assumes nothing.
-use Prim.Native.Nat.{ℕ}
+use Prim.Native.Nat.{ℕ, _-_, _≤_}
 use mathlib.Core.List.{List}
 use mathlib.Core.Logic.{inl, inr, ⊎-elim}
 use mathlib.Core.Path.{_≡_, refl}
 use native.Mathlib.Omega.{arith}
+use lib.ListN.{length, take, drop, length-drop}
+use lib.Seq.{length-take-le}
 use Rattle.image.specs.Kinds.{Kind, pgm}
 use Rattle.image.specs.Reading.{refusedReading, readingOf, numbersOf}
 use Rattle.image.specs.Promised.{Sized, Lies}
@@ -30,6 +32,12 @@ reading-lies-in kind s =
     reading-cases kind s (λ r. Lies s (r .start) (r .used)) (λ refusal e. refused-lies s) λ numbers start rest e.
     raster-cases kind s numbers start (λ r. Lies s (r .start) (r .used)) (λ _. refused-lies s) (λ _ _. refused-lies s) (λ _ _ _. refused-lies s)
     (λ h k _. record { order = omega arith; there = k; within = h })
+
+-- so that part has as many bytes
+pub lies-length : (s : List ℕ) {start used : ℕ} → Lies s start used → length (take (used - start) (drop start s)) ≡ used - start
+lies-length s {start} {used} lies =
+    let fits : used - start ≤ length (drop start s) = rw (length-drop start s) (omega (arith, lies .order, lies .there)) in
+    length-take-le (used - start) (drop start s) fits
 
 -- of a PGM
 pub reading-lies : (s : List ℕ) → Lies s (numbersOf s .start) (numbersOf s .used)

@@ -10,6 +10,10 @@ letterP = 80
 abbrev pub graySign : ℕ
 graySign = 53
 
+-- `4`, which says that a PBM comes: a mask
+abbrev pub bitSign : ℕ
+bitSign = 52
+
 -- `#`, with which a comment begins
 abbrev pub hash : ℕ
 hash = 35

@@ -1,10 +1,10 @@
 -- A kind of image is data: what reading, format, first fault and round trip have to know of it, and no more.
-use Prim.Native.Nat.{ℕ, _*_}
-use mathlib.Core.Bool.{Bool}
+use Prim.Native.Nat.{ℕ, _+_, _*_, _/_}
+use mathlib.Core.Bool.{Bool, false}
 use mathlib.Core.List.{List, [], _∷_}
 use lib.Dec.{ltb}
 use lib.ListN.{getD}
-use Rattle.image.specs.Bytes.{graySign}
+use Rattle.image.specs.Bytes.{graySign, bitSign}
 use Rattle.image.specs.Tests.{Test, upTo}
 use Rattle.image.specs.Pixels.{pixelBytes, pixelAt}
 
@@ -45,4 +45,19 @@ pgm =
       size = λ numbers. widthIn numbers * heightIn numbers * pixelBytes (maxvalIn numbers);
       positions = λ numbers. widthIn numbers * heightIn numbers;
       faulty = λ numbers raster position. ltb (maxvalIn numbers) (pixelAt (pixelBytes (maxvalIn numbers)) raster position);
+    }
+
+-- the bytes of a row of a PBM: a bit for each position, padded to a whole byte
+abbrev pub rowBytes : (width : ℕ) → ℕ
+rowBytes width = (width + 7) / 8
+
+-- the binary PBM of SCOPE, Masks: `P4`, width, height; row by row; no bit makes it bad
+unfoldable pub pbm : Kind
+pbm =
+    record {
+      sign = bitSign;
+      tests = upTo largestSide ∷ upTo largestSide ∷ [];
+      size = λ numbers. rowBytes (widthIn numbers) * heightIn numbers;
+      positions = λ numbers. widthIn numbers * heightIn numbers;
+      faulty = λ numbers raster position. false;
     }

@@ -6,6 +6,7 @@ pub mod Fields
 pub mod Pixels
 pub mod Kinds
 pub mod Reading
+pub mod Mask
 pub mod Part
 pub mod Told
 pub mod Format

@@ -32,9 +32,11 @@ abbrev pub rasterAt : Kind → List ℕ → List ℕ → ℕ → List ℕ
 rasterAt kind s numbers start = take (kind .size numbers) (drop start s)
 
 -- after the header, in order: header plus raster above the limit, the slice too short …
+abbrev pub endFaults : List ℕ → (used : ℕ) → List Fault
+endFaults s used = (ltb limit used gives imageTooLarge) ∷ (ltb (length s) used gives endsTooEarly) ∷ []
+
 abbrev pub sizeFaults : Kind → List ℕ → List ℕ → ℕ → List Fault
-sizeFaults kind s numbers start =
-    (ltb limit (usedWith kind numbers start) gives imageTooLarge) ∷ (ltb (length s) (usedWith kind numbers start) gives endsTooEarly) ∷ []
+sizeFaults kind s numbers start = endFaults s (usedWith kind numbers start)
 
 -- … and a position at fault, which in a PGM is a pixel above maxval
 abbrev pub pixelFaults : Kind → List ℕ → List ℕ → ℕ → List Fault
@@ -58,7 +60,7 @@ headerOf kind s = headerFields (endOf s) (kind .sign) (kind .tests) (ahead s 0)
 unfoldable pub readingOf : Kind → List ℕ → Reading
 readingOf kind s = andThen refusedReading (headerOf kind s) λ numbers start rest. withRaster kind s numbers start
 
--- the reading of a PGM, with its numbers by their names
+-- the reading of an image, with its numbers by their names; where it has no maxval, as a PBM has none, that is 0
 abbrev pub named : Reading → Numbers
 named reading =
     record {
@@ -88,7 +90,10 @@ positionsOf s = numbersOf s .width * numbersOf s .height
 unfoldable pub pixelOf : List ℕ → ℕ → ℕ
 pixelOf s position = pixelAt (pixelBytes (numbersOf s .maxval)) (rasterIn s) position
 
--- the call that gives the numbers: its one fault is the reading's own, and the bytes are lent only to be read
+-- a call that gives the numbers of an image: its one fault is the reading's own, and the bytes are lent only to be read
+abbrev pub numbersRow : Numbers → List ℕ → Call Numbers (List ℕ)
+numbersRow numbers s =
+    record { faults = passedOn (numbers .refusal) ∷ []; given = numbers; left = s; back = refusedWith; lent = s }
+
 unfoldable pub headerCall : List ℕ → Call Numbers (List ℕ)
-headerCall s =
-    record { faults = passedOn (numbersOf s .refusal) ∷ []; given = numbersOf s; left = s; back = refusedWith; lent = s }
+headerCall s = numbersRow (numbersOf s) s

@@ -1,17 +1,22 @@
-// Reads a binary PGM image from bytes that the caller lends: its numbers by one call, its raster as a part of those bytes by another.
-// Every slice gets an answer; what it is stands in specs/Reading.antt and specs/Part.antt.
+// Reads a binary PGM image from bytes that the caller lends: its numbers by one call, its raster as a part of those bytes by another; and
+// the numbers of a mask, which is a binary PBM. Every slice gets an answer; what it is stands in specs/Reading.antt, specs/Part.antt and
+// specs/Mask.antt.
 ghost use mathlib.Core.Path.{_≡_};
 ghost use Rattle.image.specs.Reading.{numbersOf};
+ghost use Rattle.image.specs.Mask.{maskNumbersOf};
 ghost use Rattle.image.specs.Part.{partOf, rasterOf};
 ghost use Rattle.image.specs.Pixels.{pixelAt};
 
 mod bytes;
 mod fields;
+mod masks;
 mod pairs;
 mod pixels;
 
-// The byte of the sign behind `P`, and the largest numbers, as specs/Kinds.antt has them.
+// The byte of the sign behind `P`, of an image and of a mask, and the largest numbers, as specs/Kinds.antt has them.
 const GRAY: usize = 53;
+
+const BITS: usize = 52;
 
 const LARGEST_SIDE: usize = 1024;
 
@@ -37,6 +42,16 @@ pub fn header(s: &[u8]) -> Numbers
     let height = fields::number(s, width, LARGEST_SIDE);
     let maxval = fields::number(s, height, LARGEST_MAXVAL);
     pixels::behind(s, width.value, height.value, maxval)
+}
+
+// The numbers of the mask at the start of the slice; it has no maxval, which is 0.
+pub fn mask_header(s: &[u8]) -> Numbers
+    ensures { λ r. ⌜ r ≡ maskNumbersOf (now (s .entry)) ⌝ }
+{
+    let sign = fields::magic(s, BITS);
+    let width = fields::number(s, sign, LARGEST_SIDE);
+    let height = fields::number(s, width, LARGEST_SIDE);
+    masks::behind(s, width.value, height)
 }
 
 // The raster itself, as the part of the slice in which it lies; an empty part where the image is refused.

@@ -4,12 +4,13 @@ ghost use mathlib.Core.Path.{_≡_};
 ghost use Prim.Native.Nat.{_*_, _≤_, max};
 ghost use lib.Dec.{ltb};
 ghost use lib.ListN.{length};
+ghost use Rattle.refusals.specs.First.{firstOf};
 ghost use Rattle.image.specs.Seen.{limit};
 ghost use Rattle.image.specs.Pixels.{pixelBytes, pixelAt, atSome};
 ghost use Rattle.image.specs.Step.{andThen};
 ghost use Rattle.image.specs.Told.{told, largest, aboveRanges};
 ghost use Rattle.image.specs.Kinds.{pgm};
-ghost use Rattle.image.specs.Reading.{refusedWith, named, withRaster};
+ghost use Rattle.image.specs.Reading.{refusedWith, endFaults, named, withRaster};
 use crate::Numbers;
 use crate::bytes::LIMIT;
 use crate::bytes::Took;
@@ -103,6 +104,19 @@ fn too_large(raster: &[u8], positions: usize, maxval: usize) -> bool
     maxval < pairs::largest_of(raster, positions) as usize
 }
 
+// 13 or 14 where an image that ends there is too large or not all there, else 0.
+pub(crate) fn missing(s: &[u8], used: usize) -> u8
+    ensures { λ r. ⌜ r ≡ firstOf (endFaults (now (s .entry)) used) ⌝ }
+{
+    if used <= readable(s) {
+        return 0;
+    }
+    if LIMIT < used {
+        return IMAGE_TOO_LARGE;
+    }
+    ENDS_TOO_EARLY
+}
+
 // The answer for a header that has these numbers and takes `start` bytes.
 fn judge(s: &[u8], width: usize, height: usize, maxval: usize, start: usize) -> Numbers
     requires { ⌜ (width ≤ aboveRanges) × (height ≤ aboveRanges) × (start ≤ limit) ⌝ }
@@ -110,11 +124,9 @@ fn judge(s: &[u8], width: usize, height: usize, maxval: usize, start: usize) -> 
 {
     let positions = width * height;
     let used = start + positions * pixel_bytes(maxval);
-    if readable(s) < used {
-        if LIMIT < used {
-            return refused(IMAGE_TOO_LARGE);
-        }
-        return refused(ENDS_TOO_EARLY);
+    let refusal = missing(s, used);
+    if refusal != 0 {
+        return refused(refusal);
     }
     if too_large(&s[start..used], positions, maxval) {
         return refused(PIXEL_TOO_LARGE);

@@ -61,7 +61,7 @@ endsTooEarly = 14
 abbrev pub pixelTooLarge : ℕ
 pixelTooLarge = 15
 
--- 16: two images that differ in width, height or maxval
+-- 16: two images that differ in width, height or maxval, or a mask of another width or height
 abbrev pub imagesDiffer : ℕ
 imagesDiffer = 16
 

@@ -4,11 +4,12 @@ use Prim.Native.Nat.{ℕ, zero, suc, _+_, _≤_, _<_}
 use mathlib.Core.Bool.{Bool, true, false, not}
 use mathlib.Core.Path.{_≡_, refl, sym, ap, _∙_}
 use native.Mathlib.Omega.{arith}
+use native.Mathlib.Nat.{add-zero, add-suc}
 use native.Mathlib.Numerals.{add-one}
 use Rattle.score.specs.Changed.{oneIf, counted}
 
 -- a position counts once at most
-one-at-most : (holds : Bool) → oneIf holds ≤ 1
+pub one-at-most : (holds : Bool) → oneIf holds ≤ 1
 one-at-most true = omega arith
 one-at-most false = omega arith
 
@@ -25,6 +26,9 @@ module _ (test : ℕ → Bool) where
   pub counted-on : (from count here step : ℕ) → counted test from + count ≡ counted test here → step ≡ oneIf (test here)
       → counted test from + (count + step) ≡ counted test (here + 1)
   counted-on from count here step so-far is-step = rw (add-one here, counted-more here) (omega (arith, so-far, is-step))
+
+  pub counted-next : {count step : ℕ} (here : ℕ) → count ≡ counted test here → step ≡ oneIf (test here) → count + step ≡ counted test (here + 1)
+  counted-next here so-far is-step = rw (add-one here, counted-more here) (omega (arith, so-far, is-step))
 
   -- no more positions than there are
   pub counted-le : (count : ℕ) → counted test count ≤ count
@@ -74,3 +78,9 @@ unfolding counted
 counted-others test others zero opposite = refl
 counted-others test others (suc count) opposite =
     omega (arith, counted-others test others count opposite, oneIf-not (test count), ap oneIf (opposite count))
+
+-- a count goes on behind any position
+pub counted-onward : (test : ℕ → Bool) (from count : ℕ) → counted test (from + count) ≡ counted test from + counted (λ more. test (from + more)) count
+unfolding counted
+counted-onward test from zero = rw add-zero (omega arith)
+counted-onward test from (suc count) = rw (add-suc from count) (omega (arith, counted-onward test from count))

@@ -1,16 +1,18 @@
 -- When pixels moved, and that one threshold decides it, at every maxval and for pixels of any width.
 -- Assumes nothing.
-use Prim.Native.Nat.{ℕ, _+_, _*_, _≤_}
-use mathlib.Core.Bool.{Bool, true, false, not}
+use Prim.Native.Nat.{ℕ, _+_, _*_, _-_, _≤_}
+use mathlib.Core.Bool.{Bool, true, false, not, _&&_}
 use mathlib.Core.List.{List}
-use mathlib.Core.Path.{_≡_, refl, ap, _∙_}
+use mathlib.Core.Path.{_≡_, refl, sym, ap, _∙_}
 use native.Mathlib.Omega.{arith}
 use native.Mathlib.Nat.{mul-le-mul-right}
 use borrow.Author.Tests.{le-leb, ltb-true, ltb-false, leb-true, leb-false}
-use Rattle.image.specs.Pixels.{pixelAt}
+use Rattle.image.specs.Pixels.{pixelBytes, pixelAt}
 use Rattle.score.specs.Changed.{apart, moved, movedAt, oneIf, counted}
-use Rattle.score.specs.Near.{thresholdOf, near, nearOne, nearAt}
-use Rattle.score.proofs.Counts.{counted-on, counted-others}
+use Rattle.score.specs.Near.{thresholdOf, near, nearOne, nearAt, farAt, movedIn}
+use Rattle.score.specs.Masked.{unmasked}
+use Rattle.score.specs.Rows.{blackBit, countFrom}
+use Rattle.score.proofs.Counts.{counted-on, counted-next, counted-same, counted-others}
 
 -- a difference times 255 is above a number exactly where it is above a 255th of it
 moved-not-near : (allowance maxval x y : ℕ) → moved allowance maxval x y ≡ not (near (thresholdOf allowance maxval) x y)
@@ -55,3 +57,30 @@ pub near-on : (per threshold : ℕ) (first second : List ℕ) (from count here :
 near-on per threshold first second from count here {x} {y} {step} so-far is-x is-y is-step =
     counted-on (nearAt per threshold first second) from count here step so-far
     (is-step ∙ near-one threshold x y ∙ λ i. oneIf (near threshold (is-x i) (is-y i)))
+
+-- a position under a byte of a mask counts where it is white and its pixels are not near
+white-and-far : (black near : Bool) → oneIf (not black) - oneIf near ≡ oneIf (not black && not near)
+white-and-far true true = refl
+white-and-far true false = refl
+white-and-far false true = refl
+white-and-far false false = refl
+
+module _ (per threshold : ℕ) (first second : List ℕ) (byte at : ℕ) where
+  abbrev pub test : ℕ → Bool
+  test = unmasked (blackBit byte) (λ column. farAt per threshold first second (at + column))
+
+  pub under-next : (bit : ℕ) {count x y white step : ℕ} → count ≡ counted test bit → x ≡ pixelAt per first (at + bit) → y ≡ pixelAt per second (at + bit)
+      → white ≡ oneIf (not (blackBit byte bit)) → step ≡ white - nearOne threshold x y → count + step ≡ counted test (bit + 1)
+  under-next bit {count} {x} {y} so-far is-x is-y is-white is-step =
+      counted-next test bit so-far
+      (is-step ∙ (λ i. is-white i - (near-one threshold x y ∙ λ j. oneIf (near threshold (is-x j) (is-y j))) i)
+      ∙ white-and-far (blackBit byte bit) (nearAt per threshold first second (at + bit)))
+
+-- and pixels that are not near moved
+pub far-moved : {per : ℕ} (black : ℕ → Bool) (allowance maxval : ℕ) (first second : List ℕ) (at columns : ℕ) → pixelBytes maxval ≡ per
+    → countFrom black (farAt per (thresholdOf allowance maxval) first second) at columns ≡ countFrom black (movedIn allowance maxval first second) at columns
+far-moved {per} black allowance maxval first second at columns is-per =
+    counted-same _ _ columns
+    (λ column lt. ap (λ (b : Bool). not (black column) && b)
+    (sym (moved-not-near allowance maxval (pixelAt per first (at + column)) (pixelAt per second (at + column)))))
+    ∙ ap (λ (k : ℕ). countFrom black (movedAt allowance maxval (pixelAt k first) (pixelAt k second)) at columns) (sym is-per)

@@ -1,5 +1,6 @@
 -- What crates above may rely on, beside the definitions of specs/: a score is at most L and at most the number of positions; how
--- many positions changed is the same the other way round, and none did between an image and itself; how positions that pass a test count.
+-- many positions changed is the same the other way round, and none did between an image and itself; how positions that pass a test count; what a
+-- mask does to a score, and which bit a position goes by.
 -- Assumes nothing.
 use Prim.Native.Nat.{ℕ, _*_, _≤_}
 use mathlib.Core.List.{List}
@@ -15,7 +16,9 @@ use Rattle.score.proofs.Near.{within-still}
 pub use Rattle.score.proofs.Counts.{counted-none, counted-more, counted-le, counted-nowhere, counted-fewer, counted-same}
 pub use Rattle.score.proofs.Refused.{none-alike}
 pub use Rattle.score.proofs.Scored.{refusal-is}
-pub use Rattle.score.proofs.Demand1.{score-promised}
+pub use Rattle.score.proofs.BlackBits.{black-in-byte, black-in-row}
+pub use Rattle.score.proofs.MaskLaws.{white-is-plain, black-is-0, blacker-no-higher, padding-free, masked-le-bound}
+pub use Rattle.score.proofs.Demand1.{score-promised, masked-promised}
 
 module _ (bound allowance : ℕ) (first second : List ℕ) where
   -- at most L: what the book asks of an item

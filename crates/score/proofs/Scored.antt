@@ -14,22 +14,28 @@ use Rattle.image.specs.Reading.{numbersOf, rasterIn, positionsOf, pixelOf}
 use Rattle.image.proofs.Promises.{same-positions, raster-length, raster-within, raster-positions, maxval-range, pixel-of}
 use Rattle.score.specs.declared.Answer.{Answer}
 use Rattle.score.specs.Changed.{moved, movedAt, counted}
-use Rattle.score.specs.Near.{changedIn}
+use Rattle.score.specs.Near.{movedIn, changedIn}
 use Rattle.score.specs.Calls.{scoreFaults, scoreNumber, scoreCall, Alike}
 use Rattle.score.proofs.Refused.{score-numbered, none-alike}
 use Rattle.score.proofs.Counts.{counted-same}
 
--- the positions at which the rasters changed are those whose pixels did
+-- a position of the rasters moved where its pixels did
+pub raster-moved : (allowance : ℕ) (first second : List ℕ) → Alike (numbersOf first) (numbersOf second) → (position : ℕ)
+    → movedIn allowance (numbersOf first .maxval) (rasterIn first) (rasterIn second) position
+    ≡ movedAt allowance (numbersOf first .maxval) (pixelOf first) (pixelOf second) position
+raster-moved allowance first second a position =
+    let maxval = numbersOf first .maxval in
+    let second-pixel : pixelOf second position ≡ pixelAt (pixelBytes maxval) (rasterIn second) position =
+    pixel-of second position ∙ λ i. pixelAt (pixelBytes (sym (a .maxval) i)) (rasterIn second) position in
+    λ i. moved allowance maxval (sym (pixel-of first position) i) (sym second-pixel i)
+
+-- so the positions at which the rasters changed are those whose pixels did
 rasters-pixels : (allowance : ℕ) (first second : List ℕ) → Alike (numbersOf first) (numbersOf second)
     → changedIn allowance (numbersOf first .maxval) (rasterIn first) (rasterIn second)
     ≡ counted (movedAt allowance (numbersOf first .maxval) (pixelOf first) (pixelOf second)) (positionsOf first)
 rasters-pixels allowance first second a =
-    let maxval = numbersOf first .maxval in
-    let pixels = movedAt allowance maxval (pixelOf first) (pixelOf second) in
-    let second-pixel : (position : ℕ) → pixelOf second position ≡ pixelAt (pixelBytes maxval) (rasterIn second) position =
-    λ position. pixel-of second position ∙ λ i. pixelAt (pixelBytes (sym (a .maxval) i)) (rasterIn second) position in
-    counted-same _ pixels _
-    (λ position lt. λ i. moved allowance maxval (sym (pixel-of first position) i) (sym (second-pixel position) i))
+    let pixels = movedAt allowance (numbersOf first .maxval) (pixelOf first) (pixelOf second) in
+    counted-same _ pixels _ (λ position lt. raster-moved allowance first second a position)
     ∙ λ i. counted pixels (raster-positions first (a .one-taken) i)
 
 module _ (bound allowance : ℕ) (first second : List ℕ) where

@@ -1,7 +1,7 @@
 -- The score of two images (SCOPE, Score): what is refused, in order, and the number that is given.
 use Prim.Native.Nat.{ℕ, min}
 use mathlib.Core.Bool.{not}
-use mathlib.Core.List.{List, [], _∷_}
+use mathlib.Core.List.{List, [], _∷_, _++_}
 use mathlib.Core.Path.{_≡_}
 use lib.Dec.{eqb}
 use Rattle.refusals.specs.Numbers.{badBound, imagesDiffer}
@@ -16,18 +16,25 @@ use Rattle.score.specs.Changed.{movedAt, counted}
 abbrev pub largestBound : ℕ
 largestBound = 65535
 
--- 16: the images differ in width, height or maxval
-abbrev pub differFaults : Numbers → Numbers → List Fault
-differFaults one two =
-    (not (eqb (one .width) (two .width)) gives imagesDiffer)
-    ∷ (not (eqb (one .height) (two .height)) gives imagesDiffer)
-    ∷ (not (eqb (one .maxval) (two .maxval)) gives imagesDiffer)
-    ∷ []
+-- 16: the images differ in width, height …
+abbrev pub sideFaults : Numbers → Numbers → List Fault
+sideFaults one two =
+    (not (eqb (one .width) (two .width)) gives imagesDiffer) ∷ (not (eqb (one .height) (two .height)) gives imagesDiffer) ∷ []
 
--- in order: L out of range, the first image's refusal, the second's, images that differ
+-- … or maxval
+abbrev pub maxvalFaults : Numbers → Numbers → List Fault
+maxvalFaults one two = (not (eqb (one .maxval) (two .maxval)) gives imagesDiffer) ∷ []
+
+abbrev pub differFaults : Numbers → Numbers → List Fault
+differFaults one two = sideFaults one two ++ maxvalFaults one two
+
+-- in order: L out of range, the first image's refusal, the second's …
+abbrev pub imageFaults : ℕ → Numbers → Numbers → List Fault
+imageFaults bound one two = (outside 1 largestBound bound gives badBound) ∷ passedOn (one .refusal) ∷ passedOn (two .refusal) ∷ []
+
+-- … and images that differ
 abbrev pub scoreFaults : ℕ → Numbers → Numbers → List Fault
-scoreFaults bound one two =
-    (outside 1 largestBound bound gives badBound) ∷ passedOn (one .refusal) ∷ passedOn (two .refusal) ∷ differFaults one two
+scoreFaults bound one two = imageFaults bound one two ++ differFaults one two
 
 -- the number of positions whose pixels differ by more than the allowance, or L if that number is larger; both images have one maxval
 unfoldable pub scoreNumber : ℕ → ℕ → List ℕ → List ℕ → ℕ

@@ -1,6 +1,6 @@
 -- How the code counts: the positions that did not change, by one threshold. Only contracts of private functions speak of this.
 use Prim.Native.Nat.{ℕ, _*_, _-_, _/_}
-use mathlib.Core.Bool.{Bool}
+use mathlib.Core.Bool.{Bool, not}
 use mathlib.Core.List.{List}
 use lib.Dec.{leb}
 use lib.ListN.{length}
@@ -23,7 +23,13 @@ nearOne threshold x y = 1 - (apart x y - threshold)
 abbrev pub nearAt : (per threshold : ℕ) (first second : List ℕ) → ℕ → Bool
 nearAt per threshold first second position = near threshold (pixelAt per first position) (pixelAt per second position)
 
--- at how many positions two rasters of images with this maxval changed
+-- whether they are further apart
+abbrev pub farAt : (per threshold : ℕ) (first second : List ℕ) → ℕ → Bool
+farAt per threshold first second position = not (nearAt per threshold first second position)
+
+-- whether the pixels at a position of two rasters of images with this maxval moved, and at how many positions they did
+abbrev pub movedIn : (allowance maxval : ℕ) (first second : List ℕ) → ℕ → Bool
+movedIn allowance maxval first second = movedAt allowance maxval (pixelAt (pixelBytes maxval) first) (pixelAt (pixelBytes maxval) second)
+
 abbrev pub changedIn : (allowance maxval : ℕ) (first second : List ℕ) → ℕ
-changedIn allowance maxval first second =
-    counted (movedAt allowance maxval (pixelAt (pixelBytes maxval) first) (pixelAt (pixelBytes maxval) second)) (length first / pixelBytes maxval)
+changedIn allowance maxval first second = counted (movedIn allowance maxval first second) (length first / pixelBytes maxval)

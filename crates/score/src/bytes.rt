@@ -1,9 +1,11 @@
 // Rasters of one byte a pixel: at how many positions two of them are no more than a threshold apart.
 ghost use mathlib.Core.Path.{_≡_};
-ghost use Prim.Native.Nat.{_+_, _≤_, _<_};
+ghost use Prim.Native.Nat.{_+_, _-_, _≤_, _<_};
 ghost use lib.ListN.{length};
 ghost use Rattle.score.specs.Changed.{apart, counted};
-ghost use Rattle.score.specs.Near.{nearOne, nearAt};
+ghost use Rattle.score.specs.Near.{nearOne, nearAt, farAt};
+ghost use Rattle.score.specs.Rows.{blackBit, countFrom, whiteTable};
+use crate::whites;
 
 // By how much two pixels differ.
 fn apart(x: u8, y: u8) -> u8
@@ -53,6 +55,37 @@ pub(crate) fn near_of(first: &[u8], second: &[u8], threshold: u8) -> u16
         let to = block_end(i, first.len());
         count += near_between(first, second, threshold, i, to) as u16;
         i = to;
+    }
+    count
+}
+
+// `white`, which is 1 or 0, for pixels more than the threshold apart, else 0.
+fn white_unless_near(threshold: u8, x: u8, y: u8, white: u8) -> u8
+    requires { ⌜ white ≤ 1 ⌝ }
+    ensures { λ r. ⌜ r ≡ white - nearOne threshold x y ⌝ }
+{
+    if threshold < apart(x, y) { white } else { 0 }
+}
+
+// The positions of a byte of a mask that are more than the threshold apart and white: always eight, so that a compiler takes them at once.
+pub(crate) fn under_byte(
+    first: &[u8],
+    second: &[u8],
+    whites: &[u8],
+    byte: u8,
+    at: usize,
+    threshold: u8,
+) -> u16
+    requires { ⌜ (now whites ≡ whiteTable) × (at + 8 ≤ length (now first)) × (at + 8 ≤ length (now second)) × (length (now first) ≤ 24576) ⌝ }
+    ensures { λ r. ⌜ r ≡ countFrom (blackBit byte) (farAt 1 threshold (now (first .entry)) (now (second .entry))) at 8 ⌝ }
+{
+    let mut count: u16 = 0;
+    let mut bit = 0;
+    while bit < 8 {
+        let here = at + bit;
+        let white = whites::white(whites, byte, bit);
+        count += white_unless_near(threshold, first[here], second[here], white) as u16;
+        bit += 1;
     }
     count
 }

@@ -11,7 +11,7 @@ use crate::pairs;
 const BYTE_MOST: usize = 255;
 
 // The largest difference that does not count.
-fn threshold(allowance: u8, maxval: usize) -> usize
+pub(crate) fn threshold(allowance: u8, maxval: usize) -> usize
     requires { ⌜ maxval ≤ 65535 ⌝ }
     ensures { λ r. ⌜ r ≡ thresholdOf allowance maxval ⌝ }
 {
@@ -19,7 +19,7 @@ fn threshold(allowance: u8, maxval: usize) -> usize
 }
 
 // The same of one byte. (At maxval 255 it is the allowance itself. Said so, the loop that compares with it is shorter.)
-fn byte_threshold(allowance: u8, maxval: usize) -> u8
+pub(crate) fn byte_threshold(allowance: u8, maxval: usize) -> u8
     requires { ⌜ maxval ≤ 255 ⌝ }
     ensures { λ r. ⌜ r ≡ thresholdOf allowance maxval ⌝ }
 {

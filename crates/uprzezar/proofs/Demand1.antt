@@ -27,6 +27,7 @@ use Rattle.image.specs.declared.Numbers.{Numbers}
 use Rattle.image.specs.Reading.{headerCall}
 use Rattle.image.proofs.Demand1 as image-calls
 use Rattle.score.specs.Calls.{scoreCall}
+use Rattle.score.specs.Masked.{maskedCall}
 use Rattle.score.specs.declared.Answer as score-answer
 use Rattle.score.proofs.Demand1 as score-calls
 use Rattle.uprzezar.specs.Crossing.{asNumbers, placeIn}
@@ -52,6 +53,7 @@ use Rattle.uprzezar.proofs.of_sums.uprzezar_total_row.Reads as total-ro
 use Rattle.uprzezar.proofs.of_images.uprzezar_header.Reads as header-reads
 use Rattle.uprzezar.proofs.of_images.uprzezar_raster.Reads as raster-reads
 use Rattle.uprzezar.proofs.of_images.uprzezar_score.Reads as score-reads
+use Rattle.uprzezar.proofs.of_images.uprzezar_score_masked.Reads as masked-reads
 
 -- THE RING. In `a` stand the arguments in their order, in `e` the same as the call returns
 module _ (κs : Lfts 1) where
@@ -144,8 +146,16 @@ module _ (κs : Lfts 1) where
       (λ a r e p. (p ∙ ap placeIn (sym (image-calls.header-result (now (a .0)))), image-calls.header-leaves (now (a .0)))) _
       (λ a. image-calls.header-tells (now (a .0)))
 
--- THE SCORE
+-- THE SCORE …
 module _ (κs : Lfts 2) where
   pub score-promised : Promised {Lent = List ℕ × List ℕ} (score-reads.Post κs) (λ r. r) (λ a e. (now (a .1 .1 .0), now (a .1 .1 .1 .0)))
       (λ a. scoreCall (a .0) (a .1 .0) (now (a .1 .1 .0)) (now (a .1 .1 .1 .0))) (λ (r : score-answer.Answer). r .refusal)
   score-promised = score-calls.score-promised κs
+
+-- … and the score under a mask, which is lent beside the images
+module _ (κs : Lfts 3) where
+  pub masked-promised : Promised {Lent = List ℕ × List ℕ × List ℕ} (masked-reads.Post κs) (λ r. r)
+      (λ a e. (now (a .1 .1 .0), now (a .1 .1 .1 .0), now (a .1 .1 .1 .1 .0)))
+      (λ a. maskedCall (a .0) (a .1 .0) (now (a .1 .1 .0)) (now (a .1 .1 .1 .0)) (now (a .1 .1 .1 .1 .0)))
+      (λ (r : score-answer.Answer). r .refusal)
+  masked-promised = score-calls.masked-promised κs

@@ -1,8 +1,9 @@
-// The calls of images and of the score.
+// The calls of images and of the scores.
 ghost use mathlib.Core.Path.{_≡_};
 ghost use Rattle.image.specs.Reading.{numbersOf};
 ghost use Rattle.refusals.specs.Call.{resultOf};
 ghost use Rattle.score.specs.Calls.{scoreCall};
+ghost use Rattle.score.specs.Masked.{maskedCall};
 ghost use Rattle.uprzezar.specs.Crossing.{rasterPlace};
 use crate::Raster;
 use crate::crossing;
@@ -40,4 +41,18 @@ pub extern "C" fn uprzezar_score(
     ensures { λ r. ⌜ r ≡ resultOf (scoreCall bound allowance (now (first .entry)) (now (second .entry))) ⌝ }
 {
     score::score(bound, allowance, first, second)
+}
+
+// The score of two images under a mask: its black positions do not count.
+#[no_mangle]
+pub extern "C" fn uprzezar_score_masked(
+    bound: u64,
+    allowance: u8,
+    first: &[u8],
+    second: &[u8],
+    mask: &[u8],
+) -> score::Answer
+    ensures { λ r. ⌜ r ≡ resultOf (maskedCall bound allowance (now (first .entry)) (now (second .entry)) (now (mask .entry))) ⌝ }
+{
+    score::masked(bound, allowance, first, second, mask)
 }

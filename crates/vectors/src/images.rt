@@ -4,6 +4,7 @@ use crate::fields::same;
 use crate::reading::bytes_in;
 use crate::reading::number_in;
 use crate::text;
+use score::Answer;
 
 fn next(out: &mut [u8], at: usize, n: usize) -> usize {
     text::next(out, at, n as u64)
@@ -36,10 +37,43 @@ fn numbers(s: &[u8], out: &mut [u8]) -> usize {
     next(out, five, raster.len())
 }
 
-fn compared(bound: u64, allowance: u8, first: &[u8], second: &[u8], out: &mut [u8]) -> usize {
-    let r = score::score(bound, allowance, first, second);
+// The refusal and the score.
+fn told(r: Answer, out: &mut [u8]) -> usize {
     let at = text::refusal(out, r.refusal);
     text::next(out, at, r.value)
+}
+
+// Behind the images comes a mask.
+fn under_mask(
+    line: &[u8],
+    bound: u64,
+    allowance: u8,
+    first: &[u8],
+    second: &[u8],
+    out: &mut [u8],
+) -> usize {
+    let mut mask = [0u8; 32768];
+    let taken = bytes_in(line, 5, &mut mask);
+    let n = taken.size;
+    if taken.ok {
+        let r = score::masked(bound, allowance, first, second, &mask[..n]);
+        return told(r, out);
+    }
+    0
+}
+
+fn compared(
+    line: &[u8],
+    bound: u64,
+    allowance: u8,
+    first: &[u8],
+    second: &[u8],
+    out: &mut [u8],
+) -> usize {
+    if calls(line, b"score_mask", 5) {
+        return under_mask(line, bound, allowance, first, second, out);
+    }
+    told(score::score(bound, allowance, first, second), out)
 }
 
 fn pgm(line: &[u8], slice: &mut [u8], out: &mut [u8]) -> usize {
@@ -51,7 +85,7 @@ fn pgm(line: &[u8], slice: &mut [u8], out: &mut [u8]) -> usize {
     0
 }
 
-// The allowance is a byte: a line with a larger number cannot be read.
+// A score, with a mask or without. The allowance is a byte: a line with a larger number cannot be read.
 fn score_of(line: &[u8], first: &mut [u8], second: &mut [u8], out: &mut [u8]) -> usize {
     let bound = number_in(line, 1);
     let allowance = number_in(line, 2);
@@ -64,7 +98,7 @@ fn score_of(line: &[u8], first: &mut [u8], second: &mut [u8], out: &mut [u8]) ->
         return 0;
     }
     if bound.ok && allowance.ok && one.ok && two.ok {
-        return compared(bound.value, a as u8, &first[..m], &second[..n], out);
+        return compared(line, bound.value, a as u8, &first[..m], &second[..n], out);
     }
     0
 }
@@ -74,6 +108,9 @@ pub(crate) fn answer(line: &[u8], first: &mut [u8], second: &mut [u8], out: &mut
         return pgm(line, first, out);
     }
     if calls(line, b"score", 4) {
+        return score_of(line, first, second, out);
+    }
+    if calls(line, b"score_mask", 5) {
         return score_of(line, first, second, out);
     }
     0

@@ -1,7 +1,7 @@
 -- `image::pixels::judge` meets its contract: the tests that led to each return say which fault of the raster holds.
 -- Assumes nothing.
 use borrow.Author.Needs.{needs}
-use Prim.Native.Nat.{ℕ, _+_, _*_, _-_, _≤_, _<_}
+use Prim.Native.Nat.{ℕ, _+_, _*_, _-_, _≤_}
 use mathlib.Core.List.{List, [], _∷_}
 use mathlib.Core.Path.{_≡_, sym, ap, _∙_}
 use native.Mathlib.Omega.{arith}
@@ -9,18 +9,15 @@ use native.Mathlib.Nat.{mul-le-mul}
 use denote.Ref.{now}
 use lib.ListN.{length, drop, length-drop}
 use lib.Seq.{length-take-le}
+use Rattle.refusals.specs.First.{firstOf}
 use Rattle.image.specs.Seen.{limit}
 use Rattle.image.specs.Kinds.{pgm}
 use Rattle.image.specs.Told.{aboveRanges}
-use Rattle.image.specs.Reading.{Reading, usedWith, named}
-use Rattle.image.proofs.RasterFaults.{someFaulty, raster-over, raster-short, raster-faulty, raster-taken}
+use Rattle.image.specs.Reading.{usedWith, endFaults, sizeFaults}
+use Rattle.image.proofs.RasterFaults.{someFaulty, raster-faulty, raster-taken, raster-missing, raster-there, answers}
 use Rattle.image.proofs.PixelWidths.{pixel-bytes-range}
 use Rattle.image.proofs.pixels.judge.Statement.{statement}
 use Rattle.image.proofs.pixels.judge.Tie as tie
-
--- what the raster decides, by name
-answers : {answer answered : Reading} → answered ≡ answer → named answer ≡ named answered
-answers e = ap (λ (r : Reading). named r) (sym e)
 
 area : (c : tie.After-shared-slice-known) → c .before .args .width * c .before .args .height ≤ aboveRanges * aboveRanges
 area c = mul-le-mul (c .before .pre .0) (c .before .pre .1)
@@ -45,19 +42,18 @@ module _ (c : tie.After-pixel-bytes) where
   unfolding pgm
   size-is = ap (λ (k : ℕ). start .args .width * start .args .height * k) (c .pixel-bytes .ensures)
 
-  abbrev used : ℕ
-  used = usedWith pgm numbers (start .args .start)
+-- the end of the image decides, or the raster is there …
+found : (c : tie.After-missing) → let p = c .before in
+    c .missing .result ≡ firstOf (sizeFaults pgm (now (start p .args .s)) (numbers p) (start p .args .start))
+found c = let p = c .before in
+    c .missing .ensures ∙ ap (λ (k : ℕ). firstOf (endFaults (now (start p .args .s)) (start p .args .start + k))) (size-is p)
 
--- the raster is there …
 module _ (c : tie.Else1) where
   abbrev sized : tie.After-pixel-bytes
   sized = c .before .before
 
-  within : used sized ≤ limit
-  within = omega (arith, size-is sized)
-
-  there : used sized ≤ length (now (start sized .args .s))
-  there = omega (arith, size-is sized)
+  there : let used = usedWith pgm (numbers sized) (start sized .args .start) in (used ≤ limit) × (used ≤ length (now (start sized .args .s)))
+  there = raster-there pgm (now (start sized .args .s)) (numbers sized) _ (sym (found (c .before)) ∙ c .if1 .left)
 
   part-is : start sized .args .start + size sized - start sized .args .start ≡ pgm .size (numbers sized)
   part-is = omega (arith, size-is sized)
@@ -80,27 +76,15 @@ mul-used c = omega (arith, size-most c)
 add-used : tie.Need-add-used
 add-used c = omega (arith, size-most c)
 
-readable-requires : tie.Need-readable-requires
-readable-requires c κs = search needs
+missing-requires : tie.Need-missing-requires
+missing-requires c κs = search needs
 
 refused-requires : tie.Need-refused-requires
 refused-requires c κs = search needs
 
 returns : tie.Need-returns
-unfolding pgm
-returns c = let p = c .before .before .before .before in
-    let over : limit < used p = omega (arith, size-is p) in
-    c .refused .ensures ∙ answers (raster-over pgm _ (numbers p) _ over)
-
-refused-requires-2 : tie.Need-refused-requires-2
-refused-requires-2 c κs = search needs
-
-returns-2 : tie.Need-returns-2
-unfolding pgm
-returns-2 c = let p = c .before .before .before .before in
-    let fits : used p ≤ limit = omega (arith, size-is p) in
-    let short : length (now (start p .args .s)) < used p = omega (arith, size-is p) in
-    c .refused2 .ensures ∙ answers (raster-short pgm _ (numbers p) _ fits short)
+returns c = let p = c .before .before in
+    c .refused .ensures ∙ answers (raster-missing pgm _ (numbers (p .before)) _ (found p) (c .before .if1 .taken))
 
 sub-too-large : tie.Need-sub-too-large
 sub-too-large c = search needs
@@ -109,30 +93,30 @@ part-too-large-start : tie.Need-part-too-large-start
 part-too-large-start c = search needs
 
 part-too-large-end : tie.Need-part-too-large-end
-part-too-large-end c = search needs
+part-too-large-end c = omega (arith, size-is (sized c), there c .1)
 
 too-large-requires : tie.Need-too-large-requires
 unfolding pgm
 too-large-requires c κs =
     let p = sized (c .before) in
     let behind = drop (start p .args .start) (now (start p .args .s)) in
-    let fits : pgm .size (numbers p) ≤ length behind = rw length-drop (omega (arith, there (c .before))) in
+    let fits : pgm .size (numbers p) ≤ length behind = rw length-drop (omega (arith, there (c .before) .1)) in
     rw (part-is (c .before)) (length-take-le _ behind fits)
 
-refused-requires-3 : tie.Need-refused-requires-3
-refused-requires-3 c κs = search needs
+refused-requires-2 : tie.Need-refused-requires-2
+refused-requires-2 c κs = search needs
+
+returns-2 : tie.Need-returns-2
+unfolding pgm
+returns-2 c = let p = c .before .before in
+    let h = p .before .before in
+    c .refused2 .ensures ∙ answers (raster-faulty pgm _ (numbers (sized h)) _ (there h .0) (there h .1) (looked p ∙ c .before .if2 .taken))
 
 returns-3 : tie.Need-returns-3
 unfolding pgm
-returns-3 c = let p = c .before .before in
+returns-3 c = let p = c .before in
     let h = p .before .before in
-    c .refused3 .ensures ∙ answers (raster-faulty pgm _ (numbers (sized h)) _ (within h) (there h) (looked p ∙ c .before .if3 .taken))
-
-returns-4 : tie.Need-returns-4
-unfolding pgm
-returns-4 c = let p = c .before in
-    let h = p .before .before in
-    rw (sized h .pixel-bytes .ensures) (answers (raster-taken pgm _ (numbers (sized h)) _ (within h) (there h) (looked p ∙ c .if3 .left)))
+    rw (sized h .pixel-bytes .ensures) (answers (raster-taken pgm _ (numbers (sized h)) _ (there h .0) (there h .1) (looked p ∙ c .if2 .left)))
 
 pub judge-spec : {M : Type 1} → statement M
 judge-spec =
@@ -142,15 +126,13 @@ judge-spec =
     pixel-bytes-requires
     mul-used
     add-used
-    readable-requires
+    missing-requires
     refused-requires
     returns
-    refused-requires-2
-    returns-2
     sub-too-large
     part-too-large-start
     part-too-large-end
     too-large-requires
-    refused-requires-3
-    returns-3
-    returns-4)
+    refused-requires-2
+    returns-2
+    returns-3)
