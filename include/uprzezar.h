@@ -40,7 +40,7 @@ enum {
     UPRZEZAR_BAD_LENGTH = 2,       /* the length is not 1 to 4,096 */
     UPRZEZAR_BAD_TOLERANCE = 3,    /* the tolerance is 0, or above length times bound */
     UPRZEZAR_RING_TOO_SHORT = 4,   /* the ring has too few bytes */
-    UPRZEZAR_WINDOW_TOO_LONG = 5,  /* the window is longer than what is kept */
+    UPRZEZAR_WINDOW_TOO_LONG = 5,  /* the window, or twice the window of a trend, is longer than what is kept */
     UPRZEZAR_ZERO_ASKED = 6,       /* the amount is 0, or the window of a verdict is */
     UPRZEZAR_ITEM_TOO_LARGE = 7,   /* the item, or a count of a run, is above the bound */
     UPRZEZAR_NO_BOOK = 8,          /* the record is none that a book can have */
@@ -125,6 +125,12 @@ typedef struct {
     uint64_t window;
 } uprzezar_window;
 
+/* A trend: a number with a sign, 0 at a refusal. */
+typedef struct {
+    uint8_t refusal;
+    int64_t trend;
+} uprzezar_trended;
+
 /* What the page is told: the verdict, the window that was asked for, and its figure; all three are 0 at a refusal. */
 typedef struct {
     uint8_t refusal;
@@ -180,6 +186,7 @@ UPRZEZAR_ASSERT(sizeof(uprzezar_figure) == 16 && offsetof(uprzezar_figure, figur
 UPRZEZAR_ASSERT(sizeof(uprzezar_summed) == 32 && offsetof(uprzezar_summed, figure) == 8, "summed");
 UPRZEZAR_ASSERT(offsetof(uprzezar_summed, fields) == 16 && offsetof(uprzezar_summed, sums) == 24, "summed");
 UPRZEZAR_ASSERT(sizeof(uprzezar_window) == 16 && offsetof(uprzezar_window, window) == 8, "window");
+UPRZEZAR_ASSERT(sizeof(uprzezar_trended) == 16 && offsetof(uprzezar_trended, trend) == 8, "trended");
 UPRZEZAR_ASSERT(sizeof(uprzezar_ruled) == 24 && offsetof(uprzezar_ruled, verdict) == 1, "ruled");
 UPRZEZAR_ASSERT(offsetof(uprzezar_ruled, window) == 8 && offsetof(uprzezar_ruled, figure) == 16, "ruled");
 UPRZEZAR_ASSERT(sizeof(uprzezar_answer) == 16 && offsetof(uprzezar_answer, value) == 8, "answer");
@@ -217,7 +224,7 @@ uprzezar_ran uprzezar_run(uprzezar_book book, uint8_t *ring, size_t ring_bytes, 
 
 /* Puts a book to rest: sets `resting` to 1 and changes nothing else. Go on with the record that comes back: with it, and with the ring lent
    whole, items and runs are refused with 17 (with 18 where a row is too short), the verdict is UPRZEZAR_RESTING where it is not refused,
-   and totals and how far back answer as before. The call may come twice. Refusals: 8. */
+   and totals, how far back and the trend answer as before. The call may come twice. Refusals: 8. */
 uprzezar_updated uprzezar_rest(uprzezar_book book);
 
 /* Wakes a book: sets `resting` to 0 and changes nothing else. Go on with the record that comes back. The call may come twice. Refusals: 8. */
@@ -236,6 +243,15 @@ uprzezar_window uprzezar_far(uprzezar_book book, const uint8_t *ring, size_t rin
    the refusals still come first, and window and figure still come with it. Refusals: 8, 4, 6, 5. */
 uprzezar_ruled uprzezar_verdict(uprzezar_book book, const uint8_t *ring, size_t ring_bytes, uint64_t window, uint64_t amount);
 
+/* The trend for a window: twice the figure for the last `window` items less the figure for twice as many, which sets those items against as
+   many before them. For a book from a good start (the latest record, a ring changed by nothing else) it is at most tolerance - 1 above the
+   same difference of true totals, and at most 2 * (tolerance - 1) below it: a trend above tolerance - 1 says that there was truly more than
+   before, and one below -2 * (tolerance - 1) that there was truly less. Between the two its sign may be the opposite of the true one. (The
+   smallest book with such a trend has bound 1, length 2 and tolerance 2: after the items 0, 1, 0, 1 the trend for window 1 is -1, and the
+   true difference is 1.) A window of 0 gives 0. Any window may be asked for: its double is not cut to 64 bits. Refusals: 8, 4, and 5 where
+   twice the window is longer than what is kept. */
+uprzezar_trended uprzezar_trend(uprzezar_book book, const uint8_t *ring, size_t ring_bytes, uint64_t window);
+
 /* The book with a row.
 
    A row is numbers of 32 bits that you lend beside the ring, so that a total need not add up all its slots: one entry for each group of 32
@@ -249,7 +265,8 @@ uprzezar_ruled uprzezar_verdict(uprzezar_book book, const uint8_t *ring, size_t 
    uprzezar_total, whatever the window, and all that is said of the one holds of the other. For a row that holds other numbers, a written
    rule (docs/SCOPE.md, Running sums) still fixes the answer; only, that answer says nothing of the items, and may be above their total.
 
-   How far back, the verdict, resting and waking have no call with a row: ask with record and ring as before. A row that was kept stays so. */
+   How far back, the verdict, the trend, resting and waking have no call with a row: ask with record and ring as before. A row that was kept
+   stays so. */
 
 /* Opens a book as uprzezar_open does, and clears the entries that the book uses. Refusals: 1, 2, 3, 4, 18. */
 uprzezar_updated uprzezar_open_row(uint64_t bound, uint64_t length, uint64_t tolerance, uint8_t *ring, size_t ring_bytes, uint32_t *row,

@@ -92,6 +92,8 @@ CALLS = {
     "rest": (model.rest, (R,)),
     "wake": (model.wake, (R,)),
     "total": (model.total, (R, Y, N)),
+    "totals": (model.totals, (R, Y, N, N)),
+    "trend": (model.trend, (R, Y, N)),
     "far": (model.far, (R, Y, N)),
     "verdict": (model.verdict, (R, Y, N, N)),
     "open_row": (row_model.open_row, (N, N, N, Y, S)),

@@ -28,6 +28,8 @@ import row_lives
 import row_total_calls
 import run_calls
 import score_calls
+import trend_books
+import trend_calls
 import two_byte_calls
 import worked
 
@@ -37,7 +39,7 @@ HOME = Path(__file__).resolve().parent.parent / "crates" / "vectors"
 def sections():
     """Every section's name and calls, in order. Random ones have a seed each, so that a change in one leaves the others as they are."""
     yield "lines of the format", []
-    of_books = (paper_cases, ring_calls, book_calls, run_calls, rest_calls, row_calls, row_lives, row_total_calls)
+    of_books = (paper_cases, ring_calls, book_calls, run_calls, rest_calls, row_calls, row_lives, row_total_calls, trend_calls)
     of_images = (image_calls, comment_calls, two_byte_calls, score_calls, mask_calls, mask_header_calls)
     for part in (*of_books, *of_images, other_lines):
         yield from part.sections()
@@ -51,7 +53,7 @@ def lines():
 
 
 def main():
-    faults = [*worked.faults(), *run_calls.faults(), *row_faults.faults(), *mask_calls.faults()]
+    faults = [*worked.faults(), *run_calls.faults(), *row_faults.faults(), *trend_books.faults(), *mask_calls.faults()]
     faults += [f"no section is named {name}" for name in worked.FIGURES.keys() - dict(sections()).keys()]
     if faults:
         sys.exit("\n".join(faults))

@@ -276,6 +276,18 @@ def total(r, ring, i):
     return 0, 0 if i == 0 else figure(r, fields_of(r, ring), i)
 
 
+def totals(r, ring, i, k):
+    """8, 4, then 5 where i + k is above kept; the figure for i, and that for k items more."""
+    refusal, longer = total(r, ring, i + k)
+    return (refusal, 0, 0) if refusal else (0, total(r, ring, i)[1], longer)
+
+
+def trend(r, ring, i):
+    """8, 4, then 5 where 2i is above kept; twice the figure for i less that for 2i, a number with a sign."""
+    refusal, longer = total(r, ring, 2 * i)
+    return (refusal, 0) if refusal else (0, 2 * total(r, ring, i)[1] - longer)
+
+
 def far(r, ring, v):
     """8, 4, 6, 9; each window in turn from the shortest on."""
     refusal = book_refusal(r, ring)

@@ -1,5 +1,5 @@
 """Figures worked by hand, as calls and answers: the cases A to G of docs/SCOPE.md, slots of one bit, books at rest, books with a row of sums,
-comments in headers, pixels of two bytes, masks, and the lines of the vectors' format.
+trends, comments in headers, pixels of two bytes, masks, and the lines of the vectors' format.
 
 The model is held to them each time the vectors are made. They stand first in the section of their name.
 """
@@ -231,6 +231,42 @@ FIGURES = {
         (f"total_row {A} 6", "?"),
         (f"run_row {A} 1 4294967296", f"7 1 {A} 1"),
     ],
+    # Twice 4 less 4, twice 4 less 9, twice 4 less 14; the true ones are 4, 1 and -8. Twice 4 is above 6. At rest the same; 8 and 4 before 5.
+    "trend: case A": [
+        *((f"trend {A} {i}", f"0 {trend}") for i, trend in enumerate([0, 4, -1, -6])),
+        (f"trend {A} 4", "5 0"),
+        *((f"trend {A_AT_REST} {i}", answer) for i, answer in [(2, "0 -1"), (4, "5 0")]),
+        ("trend 5,6,10,13,1,6,0,0 - 4", "4 0"),
+        ("trend 5,6,10,15,1,6,0,0 - 4", "8 0"),
+    ],
+    # The trend may be D - 1 above the true one and twice that below.
+    "trend: both ends, and zero": [
+        ("trend 1,2,2,0,0,2,0,0 80 1", "0 -1"),  # items 0 1 0 1: twice 0 less 1; true 1
+        ("trend 1,2,2,1,0,2,0,0 00 1", "0 0"),  # items 1 0: twice 0 less 0; true -1
+        ("trend 1,2,2,2,1,2,0,0 00 1", "0 1"),  # items 0 1 1: twice 1 less 1; true 0
+        ("trend 1,2,2,1,0,2,0,0 80 1", "0 0"),  # items 0 1 1 1: twice 1 less 2; true 0
+        ("trend 2,2,3,0,0,2,0,0 40 1", "0 1"),  # items 2 1: twice 1 less 1; true -1
+    ],
+    # Twice 2^63 is 2^64; twice that and 3 more is 6 above 2^64, and 6 are kept.
+    "trend: windows of any size": [(f"trend {A} {i}", "5 0") for i in (2**63, 2**63 + 3, 2**64 - 1)],
+    "totals: case A": [
+        *((f"totals {A} {asked}", f"0 {figures}") for asked, figures in [("1 1", "4 4"), ("2 2", "4 9"), ("3 3", "4 14"), ("4 1", "9 14")]),
+        *((f"totals {A} {asked}", f"0 {figures}") for asked, figures in [("0 0", "0 0"), ("0 4", "0 9"), ("4 0", "9 9"), ("6 0", "14 14")]),
+        *((f"totals {A} {asked}", "5 0 0") for asked in ("6 1", "1 6", "7 0", "0 7")),
+        (f"totals {A_AT_REST} 2 3", "0 4 14"),
+        ("totals 5,6,10,13,1,6,0,0 - 7 0", "4 0 0"),
+        ("totals 5,6,10,15,1,6,0,0 - 7 0", "8 0 0"),
+    ],
+    # In 64 bits each of the sums would be at most 6.
+    "totals: windows of any size": [
+        (f"totals {A} {i} {more}", "5 0 0") for i, more in [(2**64 - 1, 1), (2**63, 2**63), (1, 2**64 - 1), (2**64 - 1, 7), (6, 2**64 - 1)]
+    ],
+    "trend: lines that cannot be read, and some that just can": [
+        *((f"trend {A} {rest}", "?") for rest in ("-1", "1 1", "18446744073709551616")),
+        (f"trend {A} 01", "0 4"),
+        (f"totals {A} 1", "?"),
+        (f"total {A} 1 1", "?"),
+    ],
     # Rings all 1: the slots count, and nothing behind them; one byte is too short for 12. Then slots 4 to 7 and 12 are 1, of 13; and of 72 the
     # first and the last.
     "ring: slots of one bit": [
@@ -388,6 +424,11 @@ LIVES = [
     (5, 6, 10, [3, 4, 5, 5, 0, 1, 5, 2], "5,6,10,5,0,6,1,0 c0"),
     (3, 4, 2, [1, 3, 0, 3], "3,4,2,1,0,4,0,0 21"),
     (9, 3, 1, [9, 0, 4, 2], "9,3,1,0,0,3,1,0 2040"),
+    (1, 2, 2, [0, 1, 0, 1], "1,2,2,0,0,2,0,0 80"),
+    (1, 2, 2, [1, 0], "1,2,2,1,0,2,0,0 00"),
+    (1, 2, 2, [0, 1, 1], "1,2,2,2,1,2,0,0 00"),
+    (1, 2, 2, [0, 1, 1, 1], "1,2,2,1,0,2,0,0 80"),
+    (2, 2, 3, [2, 1], "2,2,3,0,0,2,0,0 40"),
 ]
 
 

@@ -1,6 +1,6 @@
-/* Case A of docs/SCOPE.md, through the header, item by item and as one run, its book at rest and with a row, larger books with a row, the
-   small pictures of its program, pictures of two bytes a pixel, headers with comments, and pictures under masks; the shapes of its book and
-   of the box's. */
+/* Case A of docs/SCOPE.md, through the header, item by item and as one run, its book at rest, its trends and its book with a row, larger
+   books with a row, the small pictures of its program, pictures of two bytes a pixel, headers with comments, and pictures under masks; the
+   shapes of its book and of the box's. */
 #include "../include/uprzezar.h"
 
 #include <inttypes.h>
@@ -137,6 +137,40 @@ static void rests(void) {
     b = state(uprzezar_wake(b), ring);
     verdict(b, ring, 4, 9);
     state(uprzezar_add(b, ring, 1, 2), ring);
+}
+
+static void trend(uprzezar_book b, const uint8_t *ring, size_t ring_bytes, uint64_t window) {
+    uprzezar_trended t = uprzezar_trend(b, ring, ring_bytes, window);
+    printf("trend of window %" PRIu64 ": refusal %u, %" PRId64 "\n", window, t.refusal, t.trend);
+}
+
+/* A book whose trend is below 0 where the last item is truly more than the one before it. */
+static void trend_of_other_sign(void) {
+    static const uint64_t items[] = {0, 1, 0, 1};
+    uint8_t ring[1];
+    uprzezar_book b = uprzezar_open(1, 2, 2, ring, 1).book;
+    b = ran(uprzezar_run(b, ring, 1, items, 4), ring);
+    trend(b, ring, 1, 1);
+}
+
+/* Case A awake and at rest. Cut to 64 bits, the doubles of the last three windows would be 0, 2 and one less than the largest number. */
+static void trends(void) {
+    static const uint64_t items[] = {3, 4, 5, 5, 0, 1, 5};
+    static const uint64_t windows[] = {0, 1, 2, 3, 4, (uint64_t)1 << 63, ((uint64_t)1 << 63) + 1, UINT64_MAX};
+    uint8_t ring[2] = {0xff, 0xff};
+    uprzezar_book b = uprzezar_open(5, 6, 10, ring, 1).book;
+    uprzezar_book none;
+    size_t i;
+    trend_of_other_sign();
+    b = ran(uprzezar_run(b, ring, 1, items, sizeof items / sizeof *items), ring);
+    for (i = 0; i < sizeof windows / sizeof *windows; i++)
+        trend(b, ring, 1, windows[i]);
+    none = b;
+    none.phase = 2;
+    trend(none, ring, 0, 4);
+    trend(b, ring, 0, 4);
+    trend(uprzezar_rest(b).book, ring, 1, 3);
+    printf("after its trends: ring %02x, the byte behind the ring: %02x\n", ring[0], ring[1]);
 }
 
 /* A book with a ring and a row, of which so many bytes and so many entries are lent. */
@@ -435,6 +469,7 @@ int main(void) {
     book();
     runs();
     rests();
+    trends();
     rows();
     pictures();
     two_bytes();

@@ -248,6 +248,20 @@ fn row_cases(cases: &mut Vec<Case>, setting: &str, bound: u64, length: u64, tole
     total_row_cases(cases, setting, filled);
 }
 
+/// The trends of a short window and of the longest one that may be asked for.
+fn trend_cases(cases: &mut Vec<Case>, setting: &str, bound: u64, length: u64, tolerance: u64) {
+    let Filled { book, ring, .. } = Filled::by_a_third(bound, length, tolerance);
+    let record = crossed(book);
+    for window in [60, length / 2] {
+        let (a, b) = (ring.clone(), ring.clone());
+        cases.push(Case {
+            name: format!("trend of {window}, {setting}"),
+            plain: repeated(move || black_box(&book).trend(&a, black_box(window))),
+            proved: repeated(move || proved::trend(black_box(record), &b, black_box(window))),
+        });
+    }
+}
+
 fn header_case(cases: &mut Vec<Case>, what: &str, image: Vec<u8>) {
     let (a, b) = (image.clone(), image);
     cases.push(Case {
@@ -300,6 +314,7 @@ pub fn all() -> Vec<Case> {
         shape_case(&mut cases, setting, bound, length, tolerance);
         book_cases(&mut cases, setting, bound, length, tolerance);
         row_cases(&mut cases, setting, bound, length, tolerance);
+        trend_cases(&mut cases, setting, bound, length, tolerance);
     }
     picture_cases(&mut cases);
     cases

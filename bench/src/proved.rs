@@ -64,6 +64,13 @@ pub struct Summed {
 
 #[derive(Clone, Copy, Debug, PartialEq, Eq)]
 #[repr(C)]
+pub struct Trended {
+    pub refusal: u8,
+    pub trend: i64,
+}
+
+#[derive(Clone, Copy, Debug, PartialEq, Eq)]
+#[repr(C)]
 pub struct Ruled {
     pub refusal: u8,
     pub verdict: u8,
@@ -104,6 +111,7 @@ extern "C" {
     fn uprzezar_total(book: Book, ring: *const u8, bytes: usize, window: u64) -> Answer;
     fn uprzezar_far(book: Book, ring: *const u8, bytes: usize, amount: u64) -> Answer;
     fn uprzezar_verdict(book: Book, ring: *const u8, bytes: usize, window: u64, amount: u64) -> Ruled;
+    fn uprzezar_trend(book: Book, ring: *const u8, bytes: usize, window: u64) -> Trended;
     fn uprzezar_open_row(
         bound: u64,
         length: u64,
@@ -191,6 +199,10 @@ pub fn far(book: Book, ring: &[u8], amount: u64) -> Answer {
 
 pub fn verdict(book: Book, ring: &[u8], window: u64, amount: u64) -> Ruled {
     unsafe { uprzezar_verdict(book, ring.as_ptr(), ring.len(), window, amount) }
+}
+
+pub fn trend(book: Book, ring: &[u8], window: u64) -> Trended {
+    unsafe { uprzezar_trend(book, ring.as_ptr(), ring.len(), window) }
 }
 
 pub fn open_row(bound: u64, length: u64, tolerance: u64, ring: &mut [u8], row: &mut [u32]) -> Updated {

@@ -244,6 +244,37 @@ fn book_calls(chance: &mut Chance, t: &mut [Tally]) {
     same(&mut t[5], p.refusal, p, q, call);
 }
 
+/// About half of what is kept; now and then a window whose double, cut to 64 bits, would be one that is kept.
+fn half_window(chance: &mut Chance, kept: u64) -> u64 {
+    if chance.one_in(16) {
+        return 1 << 63 | chance.below(kept / 2 + 1);
+    }
+    near(chance, kept / 2)
+}
+
+/// A trend by the library's own totals.
+fn by_two_totals(book: proved::Book, ring: &[u8], window: u64) -> proved::Trended {
+    let longer = proved::total(book, ring, window.saturating_mul(2));
+    let refusal = longer.refusal;
+    if refusal != 0 {
+        return proved::Trended { refusal, trend: 0 };
+    }
+    let shorter = proved::total(book, ring, window);
+    proved::Trended { refusal, trend: 2 * shorter.value as i64 - longer.value as i64 }
+}
+
+fn trend_call(chance: &mut Chance, t: &mut Tally) {
+    let (book, bytes) = state(chance);
+    let window = half_window(chance, book.kept);
+    let record = crossed(book);
+    let call = || format!("{book:?}, window {window}, ring {bytes:02x?}");
+
+    let (refusal, trend) = book.trend(&bytes, window).map_or_else(|refusal| (refusal as u8, 0), |trend| (0, trend));
+    let q = proved::trend(record, &bytes, window);
+    alike(t.name, "by two totals", by_two_totals(record, &bytes, window), q, call);
+    same(t, refusal, proved::Trended { refusal, trend }, q, call);
+}
+
 /// Counts for a run, none of them at times: within the bound, but in a quarter of the runs one or two that are not.
 fn counts_for(chance: &mut Chance, bound: u64) -> Vec<u64> {
     let most = if chance.one_in(200) { 10_000 } else { 60 };
@@ -624,6 +655,7 @@ fn main() {
     let names = [
         "ring_clear", "ring_read", "ring_write", "ring_sum", "shape", "open", "add", "total", "far", "verdict", "rest", "wake", "run",
         "header", "raster", "score", "masked", "open_row", "add_row", "total_row", "run_row",
+        "trend",
     ];
     let mut tallies = names.map(|name| Tally { name, counts: [0; 19] });
     let mut chance = Chance::new(2026);
@@ -637,6 +669,7 @@ fn main() {
         open_row_call(&mut chance, &mut tallies[17]);
         row_calls(&mut chance, &mut tallies[18..20]);
         run_row_call(&mut chance, &mut tallies[20]);
+        trend_call(&mut chance, &mut tallies[21]);
     }
     one_bit_sums(&mut chance, &mut tallies[3]);
     let calls: u64 = tallies.iter().flat_map(|tally| tally.counts).sum();

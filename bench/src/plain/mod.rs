@@ -6,6 +6,7 @@ pub mod program;
 pub mod ring;
 pub mod score;
 pub mod sums;
+pub mod trend;
 
 /// Why a call was refused; the numbers are those of docs/SCOPE.md, Refusals.
 #[derive(Clone, Copy, Debug, PartialEq, Eq)]

@@ -13,6 +13,7 @@ use Rattle.book.specs.declared.Book.{Book}
 use Rattle.book.specs.declared.Updated.{Updated}
 use Rattle.book.specs.declared.Ran.{Ran}
 use Rattle.book.specs.declared.Figure.{Figure}
+use Rattle.book.specs.declared.Figures.{Figures}
 use Rattle.book.specs.declared.Window.{Window}
 use Rattle.book.specs.declared.shape.Shaped.{Shaped}
 use Rattle.book.specs.declared.verdicts.Notice.{Notice}
@@ -20,7 +21,7 @@ use Rattle.book.specs.declared.verdicts.Ruling.{Ruling}
 use Rattle.book.specs.declared.verdicts.Ruling.the-variants.{Told, Refused}
 use Rattle.book.specs.Verdict.{refusalIn}
 use Rattle.book.specs.Shape.{shapeCall}
-use Rattle.book.specs.Calls.{openCall, addCall, runCall, markCall, restCall, wakeCall, totalCall, howFarCall, verdictCall}
+use Rattle.book.specs.Calls.{openCall, addCall, runCall, markCall, restCall, wakeCall, totalCall, twoTotalsCall, howFarCall, verdictCall}
 use Rattle.book.proofs.shape.derive.Reads as derive-reads
 use Rattle.book.proofs.open.Reads as open-reads
 use Rattle.book.proofs.add.Reads as add-reads
@@ -28,6 +29,7 @@ use Rattle.book.proofs.run.Reads as run-reads
 use Rattle.book.proofs.rest.Reads as rest-reads
 use Rattle.book.proofs.wake.Reads as wake-reads
 use Rattle.book.proofs.total.Reads as total-reads
+use Rattle.book.proofs.two_totals.Reads as two-totals-reads
 use Rattle.book.proofs.how_far_back.Reads as far-reads
 use Rattle.book.proofs.verdict.Reads as verdict-reads
 
@@ -77,6 +79,11 @@ module _ (κs : Lfts 1) where
       (λ (r : Figure). r .refusal)
   unfolding totalCall
   total-promised = promised _ _ _ _ (λ a r e p. (p, asks-leaves _ refl)) _ (λ a. tells tt refl (λ number. refl))
+
+  pub two-totals-promised : Promised (two-totals-reads.Post κs) (λ r. r) (λ a e. now (a .1 .0))
+      (λ a. twoTotalsCall (a .0) (now (a .1 .0)) (a .1 .1 .0) (a .1 .1 .1 .0)) (λ (r : Figures). r .refusal)
+  unfolding twoTotalsCall
+  two-totals-promised = promised _ _ _ _ (λ a r e p. (p, asks-leaves _ refl)) _ (λ a. tells tt refl (λ number. refl))
 
   pub far-promised : Promised (far-reads.Post κs) (λ r. r) (λ a e. now (a .1 .0)) (λ a. howFarCall (a .0) (now (a .1 .0)) (a .1 .1 .0))
       (λ (r : Window). r .refusal)

@@ -39,6 +39,14 @@ module _ (book : Book) (held : ℕ → ℕ) (window : ℕ) where
   unfolding figureBy reckoned
   figure-in-slots longer j-is = rw (lt-leb window (book .phase) longer, j-is)
 
+-- the sum of the n newest slots, the oldest of them by itself
+pub with-oldest : (held : ℕ → ℕ) (slots next n : ℕ) → 1 ≤ n
+    → sumNewest held slots next (n - 1) + held (newest slots next n) ≡ sumNewest held slots next n
+with-oldest held slots next zero h = absurd (omega arith)
+with-oldest held slots next (suc n) h =
+    let e : suc n - 1 ≡ n = omega arith in
+    rw e (sym (sum-more held slots next n))
+
 -- a longer one, of a book that is ready: j slots are needed
 pub record Longer (book : Book) (shape : Shape) (ring : List ℕ) (window j : ℕ) : Type 0 where
   pub ready : Ready book shape (length ring)
@@ -86,12 +94,4 @@ module _ {book : Book} {shape : Shape} {ring : List ℕ} {window j : ℕ} (k : L
         rw (newer-is, last-is, place-is, k .ready .shape-is, needed, lt-leb window (book .phase) (k .longer))
         (ap (λ (sum : ℕ). reckoned book sum (slotsFor book window * blockOf book - (window - book .phase))
         (heldIn book ring (newest (slotsOf book) (book .head) (slotsFor book window))))
-        (by (slotsFor book window) (for-low book sound window (k .longer) (k .kept))))
-      where
-        by : (n : ℕ) → 1 ≤ n
-            → sumNewest (heldIn book ring) (slotsOf book) (book .head) (n - 1) + heldIn book ring (newest (slotsOf book) (book .head) n)
-            ≡ sumNewest (heldIn book ring) (slotsOf book) (book .head) n
-        by zero h = absurd (omega arith)
-        by (suc n) h =
-            let e : suc n - 1 ≡ n = omega arith in
-            rw e (sym (sum-more (heldIn book ring) (slotsOf book) (book .head) n))
+        (with-oldest (heldIn book ring) (slotsOf book) (book .head) (slotsFor book window) (for-low book sound window (k .longer) (k .kept))))

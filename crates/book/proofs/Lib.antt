@@ -11,6 +11,8 @@ pub mod RunRefused
 pub mod RingCalls
 pub mod StepsInRange
 pub mod FigureInTwoCases
+pub mod TwoWindows
+pub mod TwoTotals
 pub mod NextSlot
 pub mod Window0
 pub mod AddingInTwoCases

@@ -12,6 +12,8 @@ pub use Rattle.book.proofs.WhenTaken.{mark-known, mark-taken, mark-give
 pub use Rattle.book.proofs.DarkHours.{mark-done, mark-8}
 -- a total exactly where the window is at most kept; what it then gives
 pub use Rattle.book.proofs.WhenTaken.{total-known, total-taken, total-gives}
+-- two totals at once exactly where the longer one is; they are the two totals one by one; a refusal gives zeros, and the ring stays
+pub use Rattle.book.proofs.TwoTotals.{two-totals-refusal, two-totals-given, two-totals-back, two-totals-asks, two-totals-one-by-one}
 -- a verdict exactly where amount and window are not 0 and the window is at most kept; what it then gives; with a longer window it is 5
 pub use Rattle.book.proofs.WhenTaken.{verdict-known, verdict-taken, verdict-gives, verdict-long}
 -- a refused item or run hands the record back as it came, and a call that only asks leaves the ring
@@ -24,14 +26,14 @@ pub use Rattle.book.proofs.LookingAtAll.{place-first, none-above, all-b
 -- DARK HOURS. Opening clears the mark; of two marks the last one counts, so that resting or waking twice is the same as once, and a record
 -- whose mark is 0 comes back when it has rested and is woken; adding and runs leave the mark
 pub use Rattle.book.proofs.DarkHours.{opening-awake, last-mark, mark-it-has, rest-twice, wake-twice, rest-then-wake, add-leaves-mark, run-leaves-mark}
--- at rest every item and every run is refused with 17, and the verdict is resting with its figure; its own refusals, totals and how far back do
--- not look at the mark
+-- at rest every item and every run is refused with 17, and the verdict is resting with its figure; its own refusals, figures, totals and how far
+-- back do not look at the mark
 pub use Rattle.book.proofs.DarkHours.{add-at-rest, run-at-rest, verdict-at-rest, verdict-awake, told-in-numbers}
-pub use Rattle.book.proofs.NotByTheMark.{total-unmarked, far-unmarked, verdict-refusal-unmarked}
+pub use Rattle.book.proofs.NotByTheMark.{figure-unmarked, total-unmarked, two-totals-unmarked, far-unmarked, verdict-refusal-unmarked}
 -- a window of 0 answers 0
 pub use Rattle.book.proofs.Window0.{window-0, total-of-none}
 -- demand 1 and uniqueness of every public call
-pub use Rattle.book.proofs.Demand1.{derive-promised, open-promised, add-promised, run-promised, rest-promised, wake-promised, total-promised, far-promised, verdict-promised}
+pub use Rattle.book.proofs.Demand1.{derive-promised, open-promised, add-promised, run-promised, rest-promised, wake-promised, total-promised, two-totals-promised, far-promised, verdict-promised}
 -- a verdict leaves the ring, and tells its number whatever reads it off the answer
 pub use Rattle.book.proofs.Demand1.{open-tells, verdict-leaves, verdict-tells}
 -- HOW FAR BACK. There is a smallest window whose figure reaches v, or none; it is named, or 9 is given; there is one at the most
@@ -71,7 +73,7 @@ pub use Rattle.book.proofs.AsWritten.{open-refusal, add-refusal, run-re
 -- a record is a book with its ring exactly where 8 and 4 are passed, and L, n and D are in their ranges where 1, 2 and 3 are; 8 and 4 one by one
 pub use Rattle.book.proofs.WhenTaken.{usable-known, usable-passes, ranges-known, ranges-pass, no-record, no-room, book-passes}
 -- how large the numbers of a book get
-pub use Rattle.book.proofs.StepsInRange.{held-le, slots-top, times-top, span-top, carry-top}
+pub use Rattle.book.proofs.StepsInRange.{held-le, sum-top, slots-top, times-top, span-top, carry-top}
 -- head moving on, in its two cases
 pub use Rattle.book.proofs.NextSlot.{slot-after-cases}
 -- counts in parts: adding all is adding those of one part and then those of the other, and where none is above L none of a part is

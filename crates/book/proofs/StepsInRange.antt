@@ -53,6 +53,13 @@ ready-block {book} ready =
     rw (ready .shape-is)
     (refl, block-low (book .bound) (book .tolerance), le-trans (block-high (book .bound) (book .length) (book .tolerance) r) (r .length-high))
 
+-- as many items as are kept can be divided into blocks in 32 bits
+pub ready-divides : {book : Book} {shape : Shape} {lent : ℕ} → Ready book shape lent → {items : ℕ} → items ≤ book .kept
+    → (0 < shape .block) × (items ≤ 1073741824) × (shape .block ≤ 1073741824)
+ready-divides ready h =
+    let s = ready .usable .sound in
+    (ready-block ready .1, omega (arith, h, s .kept-high, s .ranges .length-high), omega (arith, ready-block ready))
+
 -- and its head is a slot
 pub ready-head : {book : Book} {shape : Shape} {lent : ℕ} → Ready book shape lent → book .head < shape .slots
 ready-head ready = rw (ready .shape-is) (ready .usable .sound .head-high)

@@ -11,6 +11,7 @@ use Rattle.book.specs.declared.Book.{Book}
 use Rattle.book.specs.declared.Updated.{Updated}
 use Rattle.book.specs.declared.Ran.{Ran}
 use Rattle.book.specs.declared.Figure.{Figure}
+use Rattle.book.specs.declared.Figures.{Figures}
 use Rattle.book.specs.declared.Window.{Window}
 use Rattle.book.specs.declared.verdicts.Ruling.{Ruling}
 use Rattle.book.specs.declared.verdicts.Ruling.the-variants.{Told, Refused}
@@ -140,6 +141,17 @@ totalCall book ring window =
       given = record { refusal = 0; figure = figure book ring window };
       left = ring;
       back = λ refusal. record { refusal = refusal; figure = 0 };
+      lent = ring;
+    }
+
+-- Two totals at once: 8, 4, 5. It gives the figures for the last i items and for the last i + k, and is refused as a total of the longer window is
+unfoldable pub twoTotalsCall : Book → List ℕ → ℕ → ℕ → Call Figures (List ℕ)
+twoTotalsCall book ring window more =
+    record {
+      faults = bookFaults book (length ring) ++ windowFault book (window + more) ∷ [];
+      given = record { refusal = 0; shorter = figure book ring window; longer = figure book ring (window + more) };
+      left = ring;
+      back = λ refusal. record { refusal = refusal; shorter = 0; longer = 0 };
       lent = ring;
     }
 

@@ -3,7 +3,7 @@
 ghost use mathlib.Core.Path.{_≡_};
 ghost use Rattle.refusals.specs.Call.{resultOf, leftOf};
 ghost use Rattle.book.specs.Record.{opened};
-ghost use Rattle.book.specs.Calls.{openCall, addCall, runCall, restCall, wakeCall, totalCall, howFarCall, verdictCall};
+ghost use Rattle.book.specs.Calls.{openCall, addCall, runCall, restCall, wakeCall, totalCall, twoTotalsCall, howFarCall, verdictCall};
 use refusals::ITEM_TOO_LARGE;
 use refusals::NOT_REACHED;
 use refusals::RING_TOO_SHORT;
@@ -20,6 +20,7 @@ mod running;
 pub mod shape;
 mod slots;
 mod totals;
+mod two_windows;
 pub mod verdicts;
 
 // L, n and D, which opening sets; the carry R, the phase p, kept and head, which adding changes; and the resting mark: 0, or the book rests.
@@ -62,6 +63,14 @@ pub struct Window {
 pub struct Figure {
     pub refusal: u8,
     pub figure: u64,
+}
+
+// A refusal number, 0 for none, and the figures of two windows, which are 0 at a refusal.
+#[repr(C)]
+pub struct Figures {
+    pub refusal: u8,
+    pub shorter: u64,
+    pub longer: u64,
 }
 
 // Opens a book with a bound, a length and a tolerance, and clears the bytes that its ring takes.
@@ -195,6 +204,35 @@ fn no_figure(refusal: u8) -> Figure
     ensures { λ r. ⌜ r ≡ record { refusal = refusal; figure = 0 } ⌝ }
 {
     Figure { refusal, figure: 0 }
+}
+
+// The figures for the last `window` items and for the last `window + more`, with one judgement and one walk. That sum is not made before it is known
+// to be within kept.
+pub fn two_totals(book: Book, ring: &[u8], window: u64, more: u64) -> Figures
+    ensures { λ r. ⌜ r ≡ resultOf (twoTotalsCall book (now (ring .entry)) window more) ⌝ }
+{
+    let judged = judge::usable(book, judge::count(ring.len()));
+    if judged.refusal != 0 {
+        return no_figures(judged.refusal);
+    }
+    if book.kept < window {
+        return no_figures(WINDOW_TOO_LONG);
+    }
+    if book.kept - window < more {
+        return no_figures(WINDOW_TOO_LONG);
+    }
+    let shape = judged.shape;
+    two_windows::figures_of(book, shape, ring, window, more)
+}
+
+fn no_figures(refusal: u8) -> Figures
+    ensures { λ r. ⌜ r ≡ record { refusal = refusal; shorter = 0; longer = 0 } ⌝ }
+{
+    Figures {
+        refusal,
+        shorter: 0,
+        longer: 0,
+    }
 }
 
 // How far back for an amount: the shortest window whose figure reaches it.

@@ -11,7 +11,7 @@ use crate::shape::ceil_div;
 use crate::slots;
 
 // R + D·sum − (D − 1) − e·L·g, or 0 if that is negative.
-fn reckon(book: Book, sum: u64, e: u64, g: u64) -> u64
+pub(crate) fn reckon(book: Book, sum: u64, e: u64, g: u64) -> u64
     requires { ⌜ Sound book × (sum ≤ 536870912) × (e * book .bound ≤ 268435456) × (g ≤ 1073741824) ⌝ }
     ensures { λ r. ⌜ r ≡ reckoned book sum e g ⌝ }
 {

@@ -1,1 +1,2 @@
+pub mod GoodHistories
 pub mod Starred

@@ -13,9 +13,10 @@ use Rattle.book.specs.Figure.{reckoned, slotsFor, figureBy}
 use Rattle.book.specs.HowFar.{firstReaching, howFarBack}
 use Rattle.book.specs.Verdict.{verdictOf, verdictNow}
 use Rattle.book.specs.Calls.{openCall, addCall, totalCall, howFarCall, verdictCall}
+use Rattle.trend.specs.Trend.{trendOf, trendCall}
 use Rattle.demands.specs.History.{sumOf, trueTotal}
 use Rattle.cases.specs.Table.{table, answered, given}
 
 pub starred : map answered table ≡ map given table
-unfolding resultOf leftOf digits number bits packed ringBytes field written cleared slotBefore newest sumNewest ceilDiv blockLength slotCount largestQuotient digitsWithin binaryDigits fieldWidth bytesNeeded shapeCall slotAfter added addedRing reckoned slotsFor figureBy firstReaching howFarBack verdictOf verdictNow openCall addCall totalCall howFarCall verdictCall sumOf trueTotal
+unfolding resultOf leftOf digits number bits packed ringBytes field written cleared slotBefore newest sumNewest ceilDiv blockLength slotCount largestQuotient digitsWithin binaryDigits fieldWidth bytesNeeded shapeCall slotAfter added addedRing reckoned slotsFor figureBy firstReaching howFarBack verdictOf verdictNow openCall addCall totalCall howFarCall verdictCall trendOf trendCall sumOf trueTotal
 starred = refl

@@ -7,10 +7,12 @@ use Rattle.book.specs.declared.verdicts.Ruling.{Ruling}
 use Rattle.book.specs.declared.verdicts.Ruling.the-variants.{Told, Refused}
 use Rattle.book.specs.Shape.{shapeCall}
 use Rattle.book.specs.Calls.{openCall, addCall, totalCall, howFarCall, verdictCall}
+use Rattle.trend.specs.Trend.{trendCall}
 use Rattle.demands.specs.History.{trueTotal}
+use Rattle.demands.specs.TrendMeans.{trueTrend}
 use Rattle.cases.specs.History.{Start, L_n_D_lent_, History, startOf, startOver, State, stateOf, stateOver}
-use Rattle.cases.specs.Question.{Question, shape, opening, state, adding, total, truly, howFar, verdict, _over_}
-use Rattle.cases.specs.Question.{Answer, c_s_z_b_B_, opens, R_p_kept_head_ring_, figure, true, window, told, refused}
+use Rattle.cases.specs.Question.{Question, shape, opening, state, adding, total, truly, howFar, verdict, trend, trulyTrend, _over_}
+use Rattle.cases.specs.Question.{Answer, c_s_z_b_B_, opens, R_p_kept_head_ring_, figure, true, window, told, signed, trulySigned, refused}
 
 abbrev shapeAnswer : Start → Answer
 shapeAnswer (L bound n length D tolerance lent bytes) =
@@ -47,6 +49,11 @@ rulingAnswer (Refused number) = refused number
 abbrev verdictAnswer : State → ℕ → ℕ → Answer
 verdictAnswer left asked amount = rulingAnswer (resultOf (verdictCall (left .book) (left .ring) asked amount))
 
+abbrev trendAnswer : State → ℕ → Answer
+trendAnswer left asked =
+    let r = resultOf (trendCall (left .book) (left .ring) asked) in
+    byRefusal (r .refusal) (signed (r .trend)) refused
+
 -- the answer by how the book was opened and what the history left
 abbrev answerBy : Start → State → Question → Answer
 answerBy start left shape = shapeAnswer start
@@ -57,6 +64,8 @@ answerBy start left (total asked) = totalAnswer left asked
 answerBy start left (truly asked) = true (trueTotal asked (left .accepted))
 answerBy start left (howFar amount) = howFarAnswer left amount
 answerBy start left (verdict asked amount) = verdictAnswer left asked amount
+answerBy start left (trend asked) = trendAnswer left asked
+answerBy start left (trulyTrend asked) = trulySigned (trueTrend asked (left .accepted))
 answerBy start left (question over another) = answerBy (startOver start another) (stateOver left another) question
 
 abbrev pub answerTo : History → Question → Answer

@@ -1,4 +1,5 @@
 pub mod History
+pub mod GoodHistory
 pub mod Question
 pub mod Answering
 pub mod Table

@@ -1,6 +1,7 @@
 -- What can be asked of a history, and what can be answered: in SCOPE's words and letters, or a refusal by its number.
 use Prim.Native.Nat.{ℕ}
 use mathlib.Core.List.{List}
+use lib.IntN.{ℤ, pos, negℤ}
 use Rattle.book.specs.declared.verdicts.Verdict.{Verdict}
 
 infixl 20 _over_
@@ -20,6 +21,10 @@ pub data Question : Type 0 where
   -- the smallest window whose figure is at least the amount
   howFar : (amount : ℕ) → Question
   verdict : (window amount : ℕ) → Question
+  -- twice the figure for the last `window` items less that for twice as many …
+  trend : (window : ℕ) → Question
+  -- … and the same difference of true totals
+  trulyTrend : (window : ℕ) → Question
   -- the same question, but the call is lent another ring
   _over_ : Question → (another : List ℕ) → Question
 
@@ -36,4 +41,14 @@ pub data Answer : Type 0 where
   window : ℕ → Answer
   -- a verdict with its figure
   told : Verdict → Answer
+  -- a trend, and a true one, each with its sign
+  signed : ℤ → Answer
+  trulySigned : ℤ → Answer
   refused : ℕ → Answer
+
+-- the two signs, as they are written by hand
+abbrev pub plus : ℕ → ℤ
+plus number = pos number
+
+abbrev pub minus : ℕ → ℤ
+minus number = negℤ (pos number)

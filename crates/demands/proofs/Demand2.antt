@@ -2,6 +2,7 @@
 -- short of it by less than D.
 -- Assumes nothing.
 use Prim.Native.Nat.{ℕ, _≤_}
+use native.Mathlib.Omega.{arith}
 use mathlib.Core.List.{List}
 use mathlib.Core.Path.{_≡_, sym, ap, _∙_}
 use Rattle.refusals.specs.Call.{resultOf}
@@ -20,6 +21,10 @@ module _ (book : Book) (ring items : List ℕ) (good : Good book ring items) whe
   -- of the figure itself
   pub good-bounds : (window : ℕ) → window ≤ book .kept → Bounds (figure book ring window) (trueTotal window items) (book .tolerance)
   good-bounds = figure-bounds book (heldIn book ring) items (good-invariant book ring items good)
+
+  -- which at D = 1 is the true total
+  pub good-exact : book .tolerance ≡ 1 → (window : ℕ) → window ≤ book .kept → figure book ring window ≡ trueTotal window items
+  good-exact one window kept = let b = good-bounds window kept in omega (arith, b .not-above, b .not-far-below)
 
   -- and of the call
   pub demand-2 : Demand2 book ring items

@@ -18,7 +18,7 @@ use Rattle.book.proofs.Promises.{smallest-or-none, smallest-is-named, none-is-9
 use Rattle.demands.specs.History.{Good, sumOf, trueTotal}
 use Rattle.demands.specs.Demand3.{Names, SaysNotReached, Named, SomeNamed, NotReached, Exact, Demand3}
 use Rattle.demands.proofs.GoodUsable.{good-usable}
-use Rattle.demands.proofs.Demand2.{good-bounds}
+use Rattle.demands.proofs.Demand2.{good-bounds, good-exact}
 
 -- two windows that are named are one, and a window that is named is not "not reached"
 same-window : {i j : ℕ} → _≡_ {A = Window} (record { refusal = 0; window = i }) (record { refusal = 0; window = j }) → i ≡ j
@@ -67,7 +67,7 @@ module _ (book : Book) (ring items : List ℕ) (good : Good book ring items) (v 
   -- at D = 1 the figure of a window that is kept is its true total
   module _ (one : book .tolerance ≡ 1) where
     figure-true : (k : ℕ) → k ≤ book .kept → figure book ring k ≡ trueTotal k items
-    figure-true k kept = let b = good-bounds book ring items good k kept in omega (arith, b .not-above, b .not-far-below)
+    figure-true = good-exact book ring items good one
 
     by-figure : (i : ℕ) → Smallest (book .kept) (λ k. trueTotal k items) v i → Smallest (book .kept) (figure book ring) v i
     by-figure i s =

@@ -1,4 +1,5 @@
--- Calls of the book that change nothing are calls of a good book's history (promise 2.2): a refused item or run, a total, how far back, a verdict.
+-- Calls that change nothing are calls of a good book's history (promise 2.2): a refused item or run, a total, two totals at once, how far back, a
+-- verdict, a trend.
 -- Each is seen by the record that its caller goes on with: the one that comes back, or, where the result has none, the one that went in.
 -- Assumes nothing.
 use Prim.Native.Nat.{ℕ}
@@ -9,8 +10,10 @@ use Rattle.refusals.specs.Call.{Call, refusalOf, resultOf, leftOf, seenAs}
 use Rattle.book.specs.declared.Book.{Book}
 use Rattle.book.specs.declared.Updated.{Updated}
 use Rattle.book.specs.declared.Ran.{Ran}
-use Rattle.book.specs.Calls.{addCall, runCall, totalCall, howFarCall, verdictCall}
-use Rattle.book.proofs.Promises.{add-back, run-back, total-asks, far-asks, verdict-asks}
+use Rattle.book.specs.Calls.{addCall, runCall, totalCall, twoTotalsCall, howFarCall, verdictCall}
+use Rattle.book.proofs.Promises.{add-back, run-back, total-asks, two-totals-asks, far-asks, verdict-asks}
+use Rattle.trend.specs.Trend.{trendCall}
+use Rattle.trend.proofs.Promises.{trend-asks}
 use Rattle.demands.specs.History.{Good, otherwise}
 
 module _ (book : Book) (ring items : List ℕ) (good : Good book ring items) where
@@ -40,9 +43,16 @@ module _ (book : Book) (ring items : List ℕ) (good : Good book ring items) whe
   pub after-total : (window : ℕ) → Good (resultOf (seenAs (λ r. book) (totalCall book ring window))) (leftOf (seenAs (λ r. book) (totalCall book ring window))) items
   after-total window = asked (totalCall book ring window) (total-asks book ring window)
 
+  pub after-two-totals : (window more : ℕ)
+      → Good (resultOf (seenAs (λ r. book) (twoTotalsCall book ring window more))) (leftOf (seenAs (λ r. book) (twoTotalsCall book ring window more))) items
+  after-two-totals window more = asked (twoTotalsCall book ring window more) (two-totals-asks book ring window more)
+
   pub after-how-far : (amount : ℕ) → Good (resultOf (seenAs (λ r. book) (howFarCall book ring amount))) (leftOf (seenAs (λ r. book) (howFarCall book ring amount))) items
   after-how-far amount = asked (howFarCall book ring amount) (far-asks book ring amount)
 
   pub after-verdict : (window amount : ℕ)
       → Good (resultOf (seenAs (λ r. book) (verdictCall book ring window amount))) (leftOf (seenAs (λ r. book) (verdictCall book ring window amount))) items
   after-verdict window amount = asked (verdictCall book ring window amount) (verdict-asks book ring window amount)
+
+  pub after-trend : (window : ℕ) → Good (resultOf (seenAs (λ r. book) (trendCall book ring window))) (leftOf (seenAs (λ r. book) (trendCall book ring window))) items
+  after-trend window = asked (trendCall book ring window) (trend-asks book ring window)

@@ -8,6 +8,7 @@ pub mod GoodUsable
 pub mod Demand2
 pub mod Demand3
 pub mod VerdictMeans
+pub mod TrendMeans
 pub mod Quotients
 pub mod RunFromOpening
 pub mod RunsKeepGood

@@ -1,5 +1,6 @@
 -- Demand 1 and uniqueness of each exported call. Where the statement is that of the call behind it, so are its theorems: `ring-calls`,
--- `book-calls`, `sums-calls`, `image-calls` and `score-calls` say which row it is. `Post` is the statement itself, as it stands at the function.
+-- `book-calls`, `sums-calls`, `trend-calls`, `image-calls` and `score-calls` say which row it is. `Post` is the statement itself, as it stands at
+-- the function.
 -- Assumes nothing.
 use Prim.Native.Nat.{ℕ}
 use mathlib.Core.List.{List}
@@ -23,6 +24,9 @@ use Rattle.book.proofs.Promises as book-calls
 use Rattle.sums.specs.declared.Summed.{Summed}
 use Rattle.sums.specs.Calls.{openRowCall, addRowCall, runRowCall, totalRowCall}
 use Rattle.sums.proofs.Promises as sums-calls
+use Rattle.trend.specs.declared.Answer as trend-answer
+use Rattle.trend.specs.Trend.{trendCall}
+use Rattle.trend.proofs.Promises as trend-calls
 use Rattle.image.specs.declared.Numbers.{Numbers}
 use Rattle.image.specs.Reading.{headerCall}
 use Rattle.image.proofs.Demand1 as image-calls
@@ -50,6 +54,7 @@ use Rattle.uprzezar.proofs.of_sums.uprzezar_open_row.Reads as open-row-
 use Rattle.uprzezar.proofs.of_sums.uprzezar_add_row.Reads as add-row-reads
 use Rattle.uprzezar.proofs.of_sums.uprzezar_run_row.Reads as run-row-reads
 use Rattle.uprzezar.proofs.of_sums.uprzezar_total_row.Reads as total-row-reads
+use Rattle.uprzezar.proofs.of_trend.uprzezar_trend.Reads as trend-reads
 use Rattle.uprzezar.proofs.of_images.uprzezar_header.Reads as header-reads
 use Rattle.uprzezar.proofs.of_images.uprzezar_raster.Reads as raster-reads
 use Rattle.uprzezar.proofs.of_images.uprzezar_score.Reads as score-reads
@@ -133,6 +138,12 @@ module _ (κs : Lfts 3) where
   pub run-row-promised : Promised (run-row-reads.Post κs) (λ r. r) (λ a e. record { ring = now (e .1 .0); row = now (e .1 .1 .0) })
       (λ a. runRowCall (a .0) (now (a .1 .0)) (now (a .1 .1 .0)) (now (a .1 .1 .1 .0))) (λ (r : Ran). r .refusal)
   run-row-promised = sums-calls.run-row-promised κs
+
+-- THE TREND
+module _ (κs : Lfts 1) where
+  pub trend-promised : Promised (trend-reads.Post κs) (λ r. r) (λ a e. now (a .1 .0))
+      (λ a. trendCall (a .0) (now (a .1 .0)) (a .1 .1 .0)) (λ (r : trend-answer.Answer). r .refusal)
+  trend-promised = trend-calls.trend-promised κs
 
 -- IMAGES. The raster's place is the header's answer seen in another form
 module _ (κs : Lfts 1) where

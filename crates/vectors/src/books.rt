@@ -23,12 +23,12 @@ pub(crate) struct Setting {
 }
 
 // What the calls on a record are handed: `record ring`, then one or two numbers. The ring lies at the start of the lent slice.
-struct Asked {
-    ok: bool,
-    book: Book,
-    bytes: usize,
-    third: u64,
-    fourth: u64,
+pub(crate) struct Asked {
+    pub ok: bool,
+    pub book: Book,
+    pub bytes: usize,
+    pub third: u64,
+    pub fourth: u64,
 }
 
 pub(crate) fn setting_in(line: &[u8]) -> Setting {
@@ -43,7 +43,7 @@ pub(crate) fn setting_in(line: &[u8]) -> Setting {
     }
 }
 
-fn arguments(line: &[u8], ring: &mut [u8]) -> Asked
+pub(crate) fn arguments(line: &[u8], ring: &mut [u8]) -> Asked
     ensures { λ r. ⌜ Counts (r .bytes) (now (ring .exit)) ⌝ }
 {
     let entry = record_in(line);

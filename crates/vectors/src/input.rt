@@ -5,6 +5,7 @@ use crate::images;
 use crate::rings;
 use crate::row_books;
 use crate::text;
+use crate::trends;
 ghost use Prim.Native.Nat.{_≤_};
 ghost use lib.ListN.{length};
 
@@ -27,6 +28,10 @@ fn known(line: &[u8], first: &mut [u8], second: &mut [u8], out: &mut [u8]) -> us
     let with_row = row_books::answer(line, first, out);
     if with_row != 0 {
         return with_row;
+    }
+    let of_two_windows = trends::answer(line, first, out);
+    if of_two_windows != 0 {
+        return of_two_windows;
     }
     images::answer(line, first, second, out)
 }

@@ -57,6 +57,24 @@ pub(crate) fn next(out: &mut [u8], at: usize, n: u64) -> usize {
     decimal(out, behind, n)
 }
 
+// How far a number is from 0. One below 0 is counted from -1 on, since the least one has no counterpart above 0.
+fn magnitude(n: i64) -> u64 {
+    if n < 0 {
+        return (-1 - n) as u64 + 1;
+    }
+    n as u64
+}
+
+// A number that may be below 0, behind a space.
+pub(crate) fn signed(out: &mut [u8], at: usize, n: i64) -> usize {
+    let size = magnitude(n);
+    if n < 0 {
+        let behind = word(out, at, b" -");
+        return decimal(out, behind, size);
+    }
+    next(out, at, size)
+}
+
 // A number behind a comma.
 fn listed(out: &mut [u8], at: usize, n: u64) -> usize {
     let behind = byte(out, at, b',');

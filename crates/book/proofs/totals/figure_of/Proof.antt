@@ -8,7 +8,7 @@ use denote.Ref.{now}
 use native.Mathlib.Nat.{div-le-self}
 use Rattle.ring.proofs.Promises.{newest-lt}
 use Rattle.book.specs.Record.{heldIn}
-use Rattle.book.proofs.StepsInRange.{ready-lent, ready-block, ready-head, carry-top, span-top}
+use Rattle.book.proofs.StepsInRange.{ready-lent, ready-divides, ready-head, carry-top, span-top}
 use Rattle.book.proofs.FigureInTwoCases.{figure-open, Longer, slots-needed, slots-cover, parts-top, figure-slots}
 use Rattle.book.proofs.totals.figure_of.Statement.{statement}
 use Rattle.book.proofs.totals.figure_of.Tie as tie
@@ -52,13 +52,7 @@ sub-items : tie.Need-sub-items
 sub-items c = search needs
 
 ceil-div-requires : tie.Need-ceil-div-requires
-ceil-div-requires c κs =
-    let p = c .before .before .before .before .pre in
-    let s = p .0 .usable .sound in (
-      ready-block (p .0) .1,
-      omega (arith, p .1, s .kept-high, s .ranges .length-high),
-      omega (arith, ready-block (p .0)),
-    )
+ceil-div-requires c κs = let p = c .before .before .before .before .pre in ready-divides (p .0) (omega (arith, p .1))
 
 sub-sum-newest : tie.Need-sub-sum-newest
 sub-sum-newest c = slots-needed (longer c) .0
