@@ -18,8 +18,10 @@
  *
  * A book from a good start is one that uprzezar_open or uprzezar_open_row opened without a refusal; each call since has got the latest
  * record, and the ring as the last call left it, changed by nothing else (no call of the ring alone, no second book in it).
+ * So is the book that uprzezar_coarsen or uprzezar_coarsen_row made of such a one without a refusal, with the record that it gave and the
+ * second ring.
  * What is said below of true totals, and of what a window truly holds, holds for such a book, over the items that uprzezar_add,
- * uprzezar_run, uprzezar_add_row and uprzezar_run_row accepted.
+ * uprzezar_run, uprzezar_add_row and uprzezar_run_row accepted, those from before it was made coarser too.
  * Any other record, or ring, still gets the one answer that is laid down for it; only, that answer says nothing of the items.
  * A total by a row asks for more than a good start: "The book with a row" below says what.
  */
@@ -38,8 +40,8 @@ enum {
     UPRZEZAR_NO_REFUSAL = 0,
     UPRZEZAR_BAD_BOUND = 1,        /* the bound is not 1 to 65,535 */
     UPRZEZAR_BAD_LENGTH = 2,       /* the length is not 1 to 4,096 */
-    UPRZEZAR_BAD_TOLERANCE = 3,    /* the tolerance is 0, or above length times bound */
-    UPRZEZAR_RING_TOO_SHORT = 4,   /* the ring has too few bytes */
+    UPRZEZAR_BAD_TOLERANCE = 3,    /* the tolerance is 0, or it, or that of a coarser book, is above length times bound */
+    UPRZEZAR_RING_TOO_SHORT = 4,   /* the ring, or the second ring, has too few bytes */
     UPRZEZAR_WINDOW_TOO_LONG = 5,  /* the window, or twice the window of a trend, is longer than what is kept */
     UPRZEZAR_ZERO_ASKED = 6,       /* the amount is 0, or the window of a verdict is */
     UPRZEZAR_ITEM_TOO_LARGE = 7,   /* the item, or a count of a run, is above the bound */
@@ -54,7 +56,8 @@ enum {
     UPRZEZAR_PIXEL_TOO_LARGE = 15, /* a pixel is above maxval */
     UPRZEZAR_IMAGES_DIFFER = 16,   /* the two images differ in width, height or maxval, or the mask has another width or height */
     UPRZEZAR_BOOK_RESTS = 17,      /* the book rests, and takes no items */
-    UPRZEZAR_ROW_TOO_SHORT = 18    /* the row has fewer entries than the ring has groups of 32 slots, a last part of a group counted too */
+    UPRZEZAR_ROW_TOO_SHORT = 18,   /* the row has fewer entries than the ring has groups of 32 slots, a last part of a group counted too */
+    UPRZEZAR_CANNOT_COARSEN = 19   /* the tolerance is no multiple of the bound, or is to be taken fewer than 2 or more than 16 times */
 };
 
 /* The verdicts. What they say of the window is for a book from a good start: the latest record, and a ring changed by nothing else. */
@@ -90,8 +93,8 @@ typedef struct {
     uint64_t kept;
     uint64_t head;
     uint64_t resting; /* 0: awake; anything else: the book rests. uprzezar_open and uprzezar_wake set 0, uprzezar_rest sets 1, and
-                         uprzezar_add and uprzezar_run hand it back as it came; whatever it is, it is no ground for refusal 8. Set it by
-                         these calls: a book whose record was changed by hand is not one from a good start */
+                         uprzezar_add, uprzezar_run and uprzezar_coarsen hand it back as it came; whatever it is, it is no ground for
+                         refusal 8. Set it by these calls: a book whose record was changed by hand is not one from a good start */
 } uprzezar_book;
 
 typedef struct {
@@ -105,6 +108,13 @@ typedef struct {
     uint64_t place;
     uprzezar_book book;
 } uprzezar_ran;
+
+/* A coarser book: the bytes that its ring takes, 0 at a refusal, and the record to go on with. */
+typedef struct {
+    uint8_t refusal;
+    uint64_t bytes;
+    uprzezar_book book;
+} uprzezar_coarser;
 
 typedef struct {
     uint8_t refusal;
@@ -182,6 +192,8 @@ UPRZEZAR_ASSERT(offsetof(uprzezar_book, kept) == 40 && offsetof(uprzezar_book, h
 UPRZEZAR_ASSERT(sizeof(uprzezar_updated) == 72 && offsetof(uprzezar_updated, book) == 8, "updated");
 UPRZEZAR_ASSERT(sizeof(uprzezar_ran) == 80 && offsetof(uprzezar_ran, place) == 8, "ran");
 UPRZEZAR_ASSERT(offsetof(uprzezar_ran, book) == 16, "ran");
+UPRZEZAR_ASSERT(sizeof(uprzezar_coarser) == 80 && offsetof(uprzezar_coarser, bytes) == 8, "coarser");
+UPRZEZAR_ASSERT(offsetof(uprzezar_coarser, book) == 16, "coarser");
 UPRZEZAR_ASSERT(sizeof(uprzezar_figure) == 16 && offsetof(uprzezar_figure, figure) == 8, "figure");
 UPRZEZAR_ASSERT(sizeof(uprzezar_summed) == 32 && offsetof(uprzezar_summed, figure) == 8, "summed");
 UPRZEZAR_ASSERT(offsetof(uprzezar_summed, fields) == 16 && offsetof(uprzezar_summed, sums) == 24, "summed");
@@ -259,11 +271,12 @@ uprzezar_trended uprzezar_trend(uprzezar_book book, const uint8_t *ring, size_t 
    slot 0 and all slots up to this one hold together. Lend (slots + 31) / 32 entries, with the slots that uprzezar_shape tells, or
    UPRZEZAR_ROW_MOST, which are enough for every book; entries behind those that a book uses are never touched.
 
-   A row is KEPT beside its book if uprzezar_open_row opened the two; if each call with a row since was lent the row just as the call with a row
-   before it had left it, changed by nothing else; and if every item was taken by uprzezar_add_row or uprzezar_run_row (where uprzezar_add or
-   uprzezar_run took one, a sum may be missing, and nothing tells you so). Then, for a book from a good start, the figure of uprzezar_total_row is that of
-   uprzezar_total, whatever the window, and all that is said of the one holds of the other. For a row that holds other numbers, a written
-   rule (docs/SCOPE.md, Running sums) still fixes the answer; only, that answer says nothing of the items, and may be above their total.
+   A row is KEPT beside its book if uprzezar_open_row opened the two, or uprzezar_coarsen_row made them (below); if each call with a row since
+   was lent the row just as the call with a row before it had left it, changed by nothing else; and if every item since was taken by
+   uprzezar_add_row or uprzezar_run_row (where uprzezar_add or uprzezar_run took one, a sum may be missing, and nothing tells you so). Then,
+   for a book from a good start, the figure of uprzezar_total_row is that of uprzezar_total, whatever the window, and all that is said of the
+   one holds of the other. For a row that holds other numbers, a written rule (docs/SCOPE.md, Running sums) still fixes the answer; only,
+   that answer says nothing of the items, and may be above their total.
 
    How far back, the verdict, the trend, resting and waking have no call with a row: ask with record and ring as before. A row that was kept
    stays so. */
@@ -288,6 +301,33 @@ uprzezar_ran uprzezar_run_row(uprzezar_book book, uint8_t *ring, size_t ring_byt
    the open block reads none. Refusals: 8, 4, 18, 5. */
 uprzezar_summed uprzezar_total_row(uprzezar_book book, const uint8_t *ring, size_t ring_bytes, const uint32_t *row, size_t row_entries,
                                    uint64_t window);
+
+/* A coarser book.
+
+   Where room runs short, a book whose tolerance is a multiple of its bound can go on in a ring with fewer slots, with a tolerance that is
+   `times` times as large; `times` is 2 to 16. Bound and length stay, and so does the mark: a book at rest may be made coarser too. Go on with
+   the record that comes back and the second ring. How many bytes that ring takes, uprzezar_shape tells beforehand, for the same bound and
+   length and `times` times the tolerance, and the answer's `bytes` tells afterwards; 256 are enough for every coarser book. They are cleared
+   and written, and bytes behind them are left alone.
+
+   The first ring is only read. The two rings are not the same bytes and do not overlap. The old record and the first ring stay usable: they
+   are a book of their own still, until you need that ring for something else.
+
+   The coarser book begins at the oldest block of the old one of which every item is kept: of what was kept, less than one block is lost. For a
+   book from a good start the coarser one is a book from a good start with the larger tolerance: what is said of true totals holds with it
+   for every window that is kept, then and later. */
+
+/* Makes a book coarser. Refusals: 8, 4 for the first ring, 19, 3 where `times` times the tolerance is above length times bound, 4 for the
+   second ring. */
+uprzezar_coarser uprzezar_coarsen(uprzezar_book book, const uint8_t *ring, size_t ring_bytes, uint64_t times, uint8_t *second,
+                                  size_t second_bytes);
+
+/* The same with a row, which is filled for the second ring and then kept beside the coarser book, whether the old book had one or not. An old
+   row is not asked for; lend another one if the old book is to go on with it. The entries are those of a book with the larger tolerance:
+   (slots + 31) / 32, and 64 are enough for every coarser book. Rings and row do not overlap. Refusals: 8, 4 for the first ring, 19, 3, 4 for
+   the second ring, 18. */
+uprzezar_coarser uprzezar_coarsen_row(uprzezar_book book, const uint8_t *ring, size_t ring_bytes, uint64_t times, uint8_t *second,
+                                      size_t second_bytes, uint32_t *row, size_t row_entries);
 
 /* Images: binary PGM with maxval 1 to 65,535. Above maxval 255 each pixel is two bytes, the higher first; otherwise it is one.
 

@@ -1,8 +1,9 @@
 """A line of the vectors' format and its answer: what a call's arguments are read from, and how what it gives is written.
 
-Every call of model.py and row_model.py has its name here, and what it takes.
+Every call of model.py, row_model.py and coarse_model.py has its name here, and what it takes.
 """
 
+import coarse_model
 import model
 import row_model
 
@@ -100,11 +101,22 @@ CALLS = {
     "add_row": (row_model.add_row, (R, Y, S, N)),
     "run_row": (row_model.run_row, (R, Y, S, C)),
     "total_row": (row_model.total_row, (R, Y, S, N)),
+    "coarsen": (coarse_model.coarsen, (R, Y, N, Y)),
+    "coarsen_row": (coarse_model.coarsen_row, (R, Y, N, Y, S)),
     "pgm": (model.pgm, (Y,)),
     "score": (model.score, (N, A, Y, Y)),
     "score_mask": (model.score_mask, (N, A, Y, Y, Y)),
     "shape": (model.shape, (N, N, N)),
 }
+
+
+def read(line):
+    """The call that a line names, and its arguments."""
+    fields = line.split(" ")
+    call, kinds = CALLS.get(fields[0], (None, ()))
+    if call is None or len(fields) != 1 + len(kinds):
+        raise Unreadable
+    return call, [kind(text) for kind, text in zip(kinds, fields[1:])]
 
 
 def answer(line):
@@ -113,12 +125,8 @@ def answer(line):
         return "?"
     if line.startswith("#"):
         return line
-    fields = line.split(" ")
-    call, kinds = CALLS.get(fields[0], (None, ()))
-    if call is None or len(fields) != 1 + len(kinds):
-        return "?"
     try:
-        arguments = [kind(text) for kind, text in zip(kinds, fields[1:])]
+        call, arguments = read(line)
     except Unreadable:
         return "?"
     return " ".join(show(value) for value in call(*arguments))

@@ -1,5 +1,6 @@
 """A book that lives through calls."""
 
+import coarse_model
 import model
 import row_model
 from calls import call
@@ -30,6 +31,13 @@ class Life:
         self.lines.append(call("wake", self.record))
         _, self.record = model.wake(self.record)
 
+    def coarsen(self, m, second):
+        """Goes on with the second ring, if the book is not refused."""
+        self.lines.append(self.ask("coarsen", m, second))
+        refusal, record, _, second = coarse_model.coarsen(self.record, self.ring, m, second)
+        if not refusal:
+            self.record, self.ring = record, second
+
     def ask(self, name, *arguments):
         return call(name, self.record, self.ring, *arguments)
 
@@ -48,6 +56,13 @@ class RowLife(Life):
     def run(self, counts):
         self.lines.append(self.ask_row("run_row", counts))
         _, _, self.record, self.ring, self.row = row_model.run_row(self.record, self.ring, self.row, counts)
+
+    def coarsen(self, m, second, row):
+        """Goes on with the second ring and the other row."""
+        self.lines.append(self.ask("coarsen_row", m, second, row))
+        refusal, record, _, second, row = coarse_model.coarsen_row(self.record, self.ring, m, second, row)
+        if not refusal:
+            self.record, self.ring, self.row = record, second, row
 
     def ask_row(self, name, *arguments):
         return call(name, self.record, self.ring, self.row, *arguments)

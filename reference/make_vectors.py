@@ -4,7 +4,8 @@
     python3 reference/make_vectors.py            writes both files, the same ones each time
     python3 reference/make_vectors.py --check    says whether they are the ones that stand there
 
-The answers come from model.py and row_model.py, which are written to docs/SCOPE.md alone and are first held to the figures of worked.py.
+The answers come from model.py, row_model.py and coarse_model.py, which are written to docs/SCOPE.md alone and are first held to the figures of
+worked.py.
 The calls stand in sections, each begun by a line `# NAME`; docs/PROMISES.md names them.
 It takes Python 3.9 or later, and no package.
 """
@@ -14,6 +15,9 @@ from pathlib import Path
 
 import answers
 import book_calls
+import coarse_calls
+import coarse_faults
+import coarse_row_calls
 import comment_calls
 import image_calls
 import mask_calls
@@ -40,8 +44,9 @@ def sections():
     """Every section's name and calls, in order. Random ones have a seed each, so that a change in one leaves the others as they are."""
     yield "lines of the format", []
     of_books = (paper_cases, ring_calls, book_calls, run_calls, rest_calls, row_calls, row_lives, row_total_calls, trend_calls)
+    coarser = (coarse_calls, coarse_row_calls)
     of_images = (image_calls, comment_calls, two_byte_calls, score_calls, mask_calls, mask_header_calls)
-    for part in (*of_books, *of_images, other_lines):
+    for part in (*of_books, *coarser, *of_images, other_lines):
         yield from part.sections()
 
 
@@ -53,11 +58,11 @@ def lines():
 
 
 def main():
-    faults = [*worked.faults(), *run_calls.faults(), *row_faults.faults(), *trend_books.faults(), *mask_calls.faults()]
+    calls = list(lines())
+    faults = [*worked.faults(), *run_calls.faults(), *row_faults.faults(), *trend_books.faults(), *mask_calls.faults(), *coarse_faults.faults(calls)]
     faults += [f"no section is named {name}" for name in worked.FIGURES.keys() - dict(sections()).keys()]
     if faults:
         sys.exit("\n".join(faults))
-    calls = list(lines())
     stdin = "".join(line + "\n" for line in calls)
     stdout = "".join(answers.answer(line) + "\n" for line in calls)
     if sys.argv[1:] == ["--check"]:

@@ -1,5 +1,5 @@
 """Figures worked by hand, as calls and answers: the cases A to G of docs/SCOPE.md, slots of one bit, books at rest, books with a row of sums,
-trends, comments in headers, pixels of two bytes, masks, and the lines of the vectors' format.
+trends, coarser books, comments in headers, pixels of two bytes, masks, and the lines of the vectors' format.
 
 The model is held to them each time the vectors are made. They stand first in the section of their name.
 """
@@ -266,6 +266,58 @@ FIGURES = {
         (f"trend {A} 01", "0 4"),
         (f"totals {A} 1", "?"),
         (f"total {A} 1 1", "?"),
+    ],
+    # Case A's blocks 5 5 and 0 1 are wholly kept, and the carry before them is 7. With tolerance 20 the first four items are a block: 7 + 11 is
+    # below 20, and with the fifth R is 23. With 30 none is full. 40 is above 30. Then windows of the first, where 5, 6, 6, 11 and 16 are true.
+    "coarser: case A": [
+        (f"coarsen {A} 2 ffff", "0 5,6,20,23,1,5,1,0 1 00ff"),
+        (f"coarsen {A} 3 ffff", "0 5,6,30,23,5,5,0,0 1 00ff"),
+        (f"coarsen {A} 4 ffff", "3 5,6,10,13,1,6,0,0 0 ffff"),
+        *((f"total 5,6,20,23,1,5,1,0 00 {i}", f"0 {figure}") for i, figure in enumerate([0, 4, 4, 4, 4, 4])),
+        ("total 5,6,20,23,1,5,1,0 00 6", "5 0"),
+        ("add 5,6,20,23,1,5,1,0 00 2", "0 5,6,20,25,2,6,1,0 00"),
+    ],
+    # Items 1 0 1: the first two are a block of 1, below 2, and R is 2 with the third; then 3 with a further 1.
+    "coarser: the new tolerance reached in an open block": [
+        ("coarsen 1,3,1,0,0,3,0,0 a0 2 ff", "0 1,3,2,2,1,3,1,0 1 00"),
+        ("add 1,3,2,2,1,3,1,0 00 1", "0 1,3,2,1,0,3,0,0 40"),
+        *((f"total 1,3,2,2,1,3,1,0 00 {i}", f"0 {figure}") for i, figure in [(1, 1), (3, 1)]),
+    ],
+    "coarser: how many times": [(f"coarsen {A} {m} ff", "19 5,6,10,13,1,6,0,0 0 ff") for m in (0, 1, 17, 2**32 + 2, 2**64 - 1)],
+    # Whichever come after it; 11 is no multiple of 5.
+    "coarser: the order of refusals": [
+        ("coarsen 5,6,10,15,1,6,0,0 - 17 -", "8 5,6,10,15,1,6,0,0 0 -"),
+        ("coarsen 5,6,10,13,1,6,0,0 - 17 -", "4 5,6,10,13,1,6,0,0 0 -"),
+        (f"coarsen {A} 17 -", "19 5,6,10,13,1,6,0,0 0 -"),
+        ("coarsen 5,6,11,13,1,6,0,0 40 4 -", "19 5,6,11,13,1,6,0,0 0 -"),
+        (f"coarsen {A} 4 -", "3 5,6,10,13,1,6,0,0 0 -"),
+        (f"coarsen {A} 2 -", "4 5,6,10,13,1,6,0,0 0 -"),
+        (f"coarsen_row {A} 2 - -", "4 5,6,10,13,1,6,0,0 0 - -"),
+        (f"coarsen_row {A} 2 ff -", "18 5,6,10,13,1,6,0,0 0 ff -"),
+        (f"coarsen_row {A} 2 ff 9,5", "0 5,6,20,23,1,5,1,0 1 00 0,5"),
+    ],
+    "coarser: books at rest": [
+        (f"coarsen {A_AT_REST} 2 ff", "0 5,6,20,23,1,5,1,1 1 00"),
+        ("coarsen 5,6,10,13,1,6,0,256 40 2 ff", "0 5,6,20,23,1,5,1,256 1 00"),
+        (f"coarsen {A_AT_REST} 1 ff", "19 5,6,10,13,1,6,0,1 0 ff"),
+    ],
+    # Eight slots of 1, four of 2, two of 4.
+    "coarser: twice": [
+        ("coarsen 1,8,1,0,0,8,0,0 ff 2 ff", "0 1,8,2,0,0,8,0,0 1 f0"),
+        ("coarsen 1,8,2,0,0,8,0,0 f0 2 ff", "0 1,8,4,0,0,8,0,0 1 c0"),
+        ("coarsen 1,8,1,0,0,8,0,0 ff 4 ff", "0 1,8,4,0,0,8,0,0 1 c0"),
+    ],
+    # 66 slots of 1, or 64 of them so far, make 33 or 32: the sums of the finished groups, and what is behind them stays.
+    "coarser: rows of every size": [
+        ("coarsen_row 1,66,1,0,0,66,0,0 ffffffffffffffffc0 2 ffffffffff 9,9,9", "0 1,66,2,0,0,66,0,0 5 ffffffff80 32,33,9"),
+        ("coarsen_row 1,66,1,0,0,64,64,0 ffffffffffffffff00 2 ffffffffff 9,9", "0 1,66,2,0,0,64,32,0 5 ffffffff00 32,0"),
+        ("coarsen_row 1,66,1,0,0,64,64,0 ffffffffffffffff00 2 ffffffffff 9", "18 1,66,1,0,0,64,64,0 0 ffffffffff 9"),
+    ],
+    "coarser: lines that cannot be read, and some that just can": [
+        *((f"coarsen {A} {rest}", "?") for rest in ("2", "-2 ff", "2 ff 1", "2 f", "18446744073709551616 ff")),
+        (f"coarsen {A} 02 ff", "0 5,6,20,23,1,5,1,0 1 00"),
+        *((f"coarsen_row {A} 2 ff{rest}", "?") for rest in ("", " 4294967296", " 1 1")),
+        (f"coarsen_row {A} 2 ff 4294967295", "0 5,6,20,23,1,5,1,0 1 00 0"),
     ],
     # Rings all 1: the slots count, and nothing behind them; one byte is too short for 12. Then slots 4 to 7 and 12 are 1, of 13; and of 72 the
     # first and the last.

@@ -1,6 +1,6 @@
-/* Case A of docs/SCOPE.md, through the header, item by item and as one run, its book at rest, its trends and its book with a row, larger
-   books with a row, the small pictures of its program, pictures of two bytes a pixel, headers with comments, and pictures under masks; the
-   shapes of its book and of the box's. */
+/* Case A of docs/SCOPE.md, through the header, item by item and as one run, its book at rest, its trends, its book with a row and made
+   coarser, larger books with a row and made coarser, the small pictures of its program, pictures of two bytes a pixel, headers with comments,
+   and pictures under masks; the shapes of its book and of the box's. */
 #include "../include/uprzezar.h"
 
 #include <inttypes.h>
@@ -364,6 +364,132 @@ static void rows(void) {
     all_windows(1, 4096, 1, 5983);
 }
 
+/* The record of a coarser book, the second ring's first bytes and the row's first entries. */
+static void print_coarser(const char *call, uprzezar_coarser a, const rowed *second) {
+    uprzezar_book b = a.book;
+    printf("%s: refusal %u, bytes %" PRIu64 ": tolerance %" PRIu64 ", carry %" PRIu64 ", phase %" PRIu64 ", kept %" PRIu64 ", head %" PRIu64
+           ", resting %" PRIu64 ", second ring %02x %02x, row %" PRIu32 " %" PRIu32 "\n",
+           call, a.refusal, a.bytes, b.tolerance, b.carry, b.phase, b.kept, b.head, b.resting, second->ring[0], second->ring[1],
+           second->row[0], second->row[1]);
+}
+
+/* Makes a book coarser twice over, without a row and with one, each time in a second ring of ones; what comes back goes on with the row. */
+static void coarsen(uprzezar_book b, const uint8_t *ring, size_t ring_bytes, uint64_t times, rowed *second) {
+    uprzezar_coarser a;
+    memset(second->ring, 0xff, sizeof second->ring);
+    memset(second->row, 0xff, sizeof second->row);
+    a = uprzezar_coarsen(b, ring, ring_bytes, times, second->ring, second->bytes);
+    print_coarser("coarsen", a, second);
+    memset(second->ring, 0xff, sizeof second->ring);
+    a = uprzezar_coarsen_row(b, ring, ring_bytes, times, second->ring, second->bytes, second->row, second->entries);
+    print_coarser("coarsen_row", a, second);
+    second->book = a.book;
+}
+
+/* Case A, by 2 and by 3; the mark is carried over; and the old book goes on in its own ring as if nothing had been. */
+static void coarser_case_a(void) {
+    static const uint64_t items[] = {3, 4, 5, 5, 0, 1, 5};
+    static const uint64_t more[] = {2, 5, 5, 4, 6};
+    uint8_t ring[2] = {0xff, 0xff};
+    uprzezar_book b = uprzezar_open(5, 6, 10, ring, 1).book;
+    rowed r;
+    size_t i;
+    b = ran(uprzezar_run(b, ring, 1, items, sizeof items / sizeof *items), ring);
+    r.bytes = 1;
+    r.entries = 1;
+    coarsen(b, ring, 1, 2, &r);
+    for (i = 0; i <= 6; i++)
+        total_row(&r, i);
+    for (i = 0; i < sizeof more / sizeof *more; i++)
+        add_row(&r, more[i]);
+    for (i = 0; i <= 7; i++)
+        total_row(&r, i);
+    coarsen(b, ring, 1, 3, &r);
+    run_row(&r, more, 4);
+    total_row(&r, 6);
+    coarsen(uprzezar_rest(b).book, ring, 1, 2, &r);
+    add_row(&r, 2);
+    r.book = uprzezar_wake(r.book).book;
+    add_row(&r, 2);
+    b.resting = UINT64_MAX;
+    coarsen(b, ring, 1, 2, &r);
+    b.resting = 0;
+    state(uprzezar_add(b, ring, 1, 2), ring);
+    printf("the byte behind the ring: %02x\n", ring[1]);
+}
+
+/* The order of the refusals: all of them hold at first, and then one less each time. Then a tolerance that is no multiple of the bound. */
+static void coarsen_refused(void) {
+    static const uint64_t items[] = {3, 4, 5, 5, 0, 1, 5};
+    uint8_t ring[1];
+    uprzezar_book b = uprzezar_open(5, 6, 10, ring, 1).book;
+    uprzezar_book none;
+    rowed r;
+    b = ran(uprzezar_run(b, ring, 1, items, sizeof items / sizeof *items), ring);
+    none = b;
+    none.phase = 2;
+    r.bytes = 0;
+    r.entries = 0;
+    coarsen(none, ring, 0, 17, &r);
+    coarsen(b, ring, 0, 17, &r);
+    coarsen(b, ring, 1, 17, &r);
+    coarsen(b, ring, 1, 4, &r);
+    coarsen(b, ring, 1, 3, &r);
+    r.bytes = 1;
+    coarsen(b, ring, 1, 3, &r);
+    r.entries = 1;
+    coarsen(b, ring, 1, 3, &r);
+    coarsen(b, ring, 1, 0, &r);
+    coarsen(b, ring, 1, 1, &r);
+    coarsen(b, ring, 1, UINT64_MAX, &r);
+    b = uprzezar_open(5, 6, 11, ring, 1).book;
+    coarsen(b, ring, 1, 2, &r);
+}
+
+/* So many items, so many times the tolerance, and some items more; then, over all windows that are kept, by how much a figure is short of the
+   true total at most, how many are above it, and how many are others by the row. The first ring is as it was. */
+static void coarser_windows(uint64_t bound, uint64_t length, uint64_t tolerance, uint64_t items, uint64_t times, uint64_t more) {
+    uint64_t i;
+    uint64_t held = 0;
+    uint64_t most = 0;
+    uint64_t above = 0;
+    uint64_t others = 0;
+    uint8_t before_it[512];
+    rowed old;
+    rowed r;
+    open_rowed(&old, bound, length, tolerance);
+    for (i = 0; i < items; i++)
+        old.book = uprzezar_add_row(old.book, old.ring, old.bytes, old.row, old.entries, item_at(i, bound)).book;
+    memcpy(before_it, old.ring, sizeof before_it);
+    r.bytes = uprzezar_shape(bound, length, times * tolerance).shape.bytes;
+    r.entries = UPRZEZAR_ROW_MOST;
+    coarsen(old.book, old.ring, old.bytes, times, &r);
+    for (i = items; i < items + more; i++)
+        r.book = uprzezar_add_row(r.book, r.ring, r.bytes, r.row, r.entries, item_at(i, bound)).book;
+    for (i = 0; i <= r.book.kept; i++) {
+        uint64_t total = uprzezar_total(r.book, r.ring, r.bytes, i).figure;
+        held += i == 0 ? 0 : item_at(items + more - i, bound);
+        above += total > held;
+        most = total <= held && held - total > most ? held - total : most;
+        others += total != uprzezar_total_row(r.book, r.ring, r.bytes, r.row, r.entries, i).figure;
+    }
+    printf("bound %" PRIu64 ", length %" PRIu64 ", tolerance %" PRIu64 ", %" PRIu64 " items, %" PRIu64 " times, %" PRIu64
+           " items more: kept %" PRIu64 ", short by at most %" PRIu64 "; above: %" PRIu64 ", other figures: %" PRIu64
+           "; the byte behind the second ring: %02x, the entry behind all: %" PRIu32 "; the first ring is %s\n",
+           bound, length, tolerance, items, times, more, r.book.kept, most, above, others, r.ring[r.bytes], r.row[UPRZEZAR_ROW_MOST],
+           memcmp(before_it, old.ring, sizeof before_it) == 0 ? "as it was" : "another");
+}
+
+static void coarser(void) {
+    coarser_case_a();
+    coarsen_refused();
+    coarser_windows(600, 1440, 3600, 1000, 2, 0);
+    coarser_windows(600, 1440, 3600, 2000, 2, 100);
+    coarser_windows(600, 1440, 3600, 2000, 16, 100);
+    coarser_windows(1, 4096, 1, 5983, 2, 0);
+    coarser_windows(1, 4096, 1, 5983, 16, 3000);
+}
+
 static void image(const uint8_t *bytes, size_t count) {
     uprzezar_numbers n = uprzezar_header(bytes, count);
     printf("image: refusal %u, %zu x %zu, maxval %zu, raster from %zu, used %zu\n", n.refusal, n.width, n.height, n.maxval, n.start,
@@ -471,6 +597,7 @@ int main(void) {
     rests();
     trends();
     rows();
+    coarser();
     pictures();
     two_bytes();
     comments();

@@ -262,6 +262,28 @@ fn trend_cases(cases: &mut Vec<Case>, setting: &str, bound: u64, length: u64, to
     }
 }
 
+/// Making a book coarser, by the fewest and the most times, without a row and with one.
+fn coarsen_cases(cases: &mut Vec<Case>, setting: &str, bound: u64, length: u64, tolerance: u64) {
+    let Filled { mut book, mut ring, mut row } = Filled::by_a_third(bound, length, tolerance);
+    // its block closes, so that every block is wholly kept
+    book.add_row(&mut ring, &mut row, bound).expect("an item within the bound");
+    let record = crossed(book);
+    for times in [2, 16] {
+        let [(a, mut second_a), (b, mut second_b)] = [(); 2].map(|()| (ring.clone(), ring.clone()));
+        cases.push(Case {
+            name: format!("coarser, {times} times, {setting}"),
+            plain: repeated(move || black_box(&book).coarsen(&a, black_box(times), &mut second_a)),
+            proved: repeated(move || proved::coarsen(black_box(record), &b, black_box(times), &mut second_b)),
+        });
+        let [(a, mut second_a, mut row_a), (b, mut second_b, mut row_b)] = [(); 2].map(|()| (ring.clone(), ring.clone(), row.clone()));
+        cases.push(Case {
+            name: format!("coarser with a row, {times} times, {setting}"),
+            plain: repeated(move || black_box(&book).coarsen_row(&a, black_box(times), &mut second_a, &mut row_a)),
+            proved: repeated(move || proved::coarsen_row(black_box(record), &b, black_box(times), &mut second_b, &mut row_b)),
+        });
+    }
+}
+
 fn header_case(cases: &mut Vec<Case>, what: &str, image: Vec<u8>) {
     let (a, b) = (image.clone(), image);
     cases.push(Case {
@@ -315,6 +337,9 @@ pub fn all() -> Vec<Case> {
         book_cases(&mut cases, setting, bound, length, tolerance);
         row_cases(&mut cases, setting, bound, length, tolerance);
         trend_cases(&mut cases, setting, bound, length, tolerance);
+        if tolerance % bound == 0 {
+            coarsen_cases(&mut cases, setting, bound, length, tolerance);
+        }
     }
     picture_cases(&mut cases);
     cases

@@ -64,6 +64,14 @@ pub struct Summed {
 
 #[derive(Clone, Copy, Debug, PartialEq, Eq)]
 #[repr(C)]
+pub struct Coarser {
+    pub refusal: u8,
+    pub bytes: u64,
+    pub book: Book,
+}
+
+#[derive(Clone, Copy, Debug, PartialEq, Eq)]
+#[repr(C)]
 pub struct Trended {
     pub refusal: u8,
     pub trend: i64,
@@ -132,6 +140,17 @@ extern "C" {
         how_many: usize,
     ) -> Ran;
     fn uprzezar_total_row(book: Book, ring: *const u8, bytes: usize, row: *const u32, entries: usize, window: u64) -> Summed;
+    fn uprzezar_coarsen(book: Book, ring: *const u8, bytes: usize, times: u64, second: *mut u8, seconds: usize) -> Coarser;
+    fn uprzezar_coarsen_row(
+        book: Book,
+        ring: *const u8,
+        bytes: usize,
+        times: u64,
+        second: *mut u8,
+        seconds: usize,
+        row: *mut u32,
+        entries: usize,
+    ) -> Coarser;
     fn uprzezar_header(bytes: *const u8, count: usize) -> Numbers;
     fn uprzezar_raster(bytes: *const u8, count: usize) -> RasterPlace;
     fn uprzezar_score(bound: u64, allowance: u8, first: *const u8, ones: usize, second: *const u8, twos: usize) -> Answer;
@@ -220,6 +239,17 @@ pub fn run_row(book: Book, ring: &mut [u8], row: &mut [u32], counts: &[u64]) -> 
 
 pub fn total_row(book: Book, ring: &[u8], row: &[u32], window: u64) -> Summed {
     unsafe { uprzezar_total_row(book, ring.as_ptr(), ring.len(), row.as_ptr(), row.len(), window) }
+}
+
+pub fn coarsen(book: Book, ring: &[u8], times: u64, second: &mut [u8]) -> Coarser {
+    unsafe { uprzezar_coarsen(book, ring.as_ptr(), ring.len(), times, second.as_mut_ptr(), second.len()) }
+}
+
+pub fn coarsen_row(book: Book, ring: &[u8], times: u64, second: &mut [u8], row: &mut [u32]) -> Coarser {
+    let (bytes, seconds, entries) = (ring.len(), second.len(), row.len());
+    unsafe {
+        uprzezar_coarsen_row(book, ring.as_ptr(), bytes, times, second.as_mut_ptr(), seconds, row.as_mut_ptr(), entries)
+    }
 }
 
 pub fn header(bytes: &[u8]) -> Numbers {

@@ -6,6 +6,7 @@ use bench::cases::crossed;
 use bench::chance::Chance;
 use bench::pictures::{pixel_bytes, put_pixel};
 use bench::plain::book::{Book, Notice, Shape};
+use bench::plain::coarse::Coarser;
 use bench::plain::sums::Summed;
 use bench::plain::{image, ring, score, Refusal};
 use bench::proved;
@@ -13,7 +14,7 @@ use bench::proved;
 /// How many calls of a kind came out with which refusal; 0 for none.
 struct Tally {
     name: &'static str,
-    counts: [u64; 19],
+    counts: [u64; 20],
 }
 
 fn alike<T: PartialEq + std::fmt::Debug>(name: &str, side: &str, other: T, proved: T, call: impl Fn() -> String) {
@@ -465,6 +466,92 @@ fn run_row_call(chance: &mut Chance, t: &mut Tally) {
     same(t, refusal, (p, ring_a, row_a), (q, ring_b, row_b), call);
 }
 
+/// L, n and D of a book that for the most part can be made coarser.
+fn coarse_setting(chance: &mut Chance) -> (u64, u64, u64) {
+    if chance.one_in(8) {
+        return row_setting(chance);
+    }
+    let bound = 1 + if chance.one_in(2) { chance.below(65535) } else { chance.below(4) };
+    let most = chance.pick(&[6, 31, 33, 64, 65, 130, 300, 4096]);
+    let length = if chance.one_in(2) { 1 + chance.below(most) } else { most };
+    let most = chance.pick(&[1, 2, 6, 40, length]);
+    (bound, length, bound * (1 + chance.below(most)))
+}
+
+/// A record with its ring, and the items that it has taken from its opening on, each with the carry that it was added to; no items where
+/// record and ring are made up.
+struct Told {
+    book: Book,
+    ring: Vec<u8>,
+    items: Vec<(u64, u64)>,
+}
+
+fn told(chance: &mut Chance) -> Told {
+    let (bound, length, tolerance) = coarse_setting(chance);
+    let mut ring = lent(chance, ring_bytes(bound, length, tolerance));
+    let opened = if chance.one_in(3) { Err(Refusal::NoBook) } else { Book::open(bound, length, tolerance, &mut ring) };
+    let Ok(mut book) = opened else {
+        return Told { book: made_up(chance, bound, length, tolerance), ring, items: Vec::new() };
+    };
+    let most = if chance.one_in(100) { 4096 } else { 150 };
+    let least = chance.pick(&[0, 0, bound / 2, bound]);
+    let mut items = Vec::new();
+    for _ in 0..chance.below(3 * length.min(most)) {
+        let item = least + chance.below(bound - least + 1);
+        items.push((book.carry, item));
+        book.add(&mut ring, item).expect("the item is within the bound");
+    }
+    book.resting = mark(chance);
+    Told { book, ring, items }
+}
+
+/// What a fresh book with `times` times the tolerance comes to that has taken the items from the oldest wholly kept block on, and began
+/// with the carry that the old book had there.
+fn begun_there(told: &Told, times: u64, second: &mut [u8], row: &mut [u32]) -> proved::Book {
+    let Book { bound, length, tolerance, phase, kept, resting, .. } = told.book;
+    let block = tolerance / bound;
+    let taken = (kept - phase) / block * block + phase;
+    let (_, items) = told.items.split_at(told.items.len() - taken as usize);
+    let mut book = proved::open_row(bound, length, times * tolerance, second, row).book;
+    book.carry = items.first().map_or(told.book.carry, |&(carry, _)| carry);
+    let counts: Vec<u64> = items.iter().map(|&(_, item)| item).collect();
+    let ran = proved::run_row(book, second, row, &counts);
+    assert!(ran.refusal == 0, "the items are within the bound");
+    proved::Book { resting, ..ran.book }
+}
+
+fn coarser(result: Result<Coarser, Refusal>, book: proved::Book) -> proved::Coarser {
+    match result {
+        Ok(Coarser { book, bytes }) => proved::Coarser { refusal: 0, bytes: bytes as u64, book: crossed(book) },
+        Err(refusal) => proved::Coarser { refusal: refusal as u8, bytes: 0, book },
+    }
+}
+
+fn coarsen_calls(chance: &mut Chance, t: &mut [Tally]) {
+    let told = told(chance);
+    let (book, ring) = (told.book, &told.ring);
+    let times = if chance.one_in(4) { near(chance, 16) } else { 2 + chance.below(15.min((book.length / 2).max(1))) };
+    let larger = times.wrapping_mul(book.tolerance);
+    let second = lent(chance, ring_bytes(book.bound, book.length, larger));
+    let row = lent_row(chance, book.bound, book.length, larger);
+    let record = crossed(book);
+    let call = || format!("{book:?}, times {times}, ring {ring:02x?}, second {second:02x?}, row {row:?}");
+
+    let (mut a, mut b) = (second.clone(), second.clone());
+    let p = coarser(book.coarsen(ring, times, &mut a), record);
+    let q = proved::coarsen(record, ring, times, &mut b);
+    same(&mut t[0], p.refusal, (p, a), (q, b), call);
+    let [mut a, mut b, mut c] = [second.clone(), second.clone(), second.clone()];
+    let [mut row_a, mut row_b, mut row_c] = [row.clone(), row.clone(), row.clone()];
+    let p = coarser(book.coarsen_row(ring, times, &mut a, &mut row_a), record);
+    let q = proved::coarsen_row(record, ring, times, &mut b, &mut row_b);
+    if q.refusal == 0 && !told.items.is_empty() {
+        let fresh = begun_there(&told, times, &mut c, &mut row_c);
+        alike(t[1].name, "begun there", (fresh, &c, &row_c), (q.book, &b, &row_b), call);
+    }
+    same(&mut t[1], p.refusal, (p, a, row_a), (q, b, row_b), call);
+}
+
 fn whites(chance: &mut Chance, into: &mut Vec<u8>) {
     for _ in 0..1 + chance.below(3) * chance.below(2) {
         into.push(chance.pick(b" \t\r\n"));
@@ -655,9 +742,9 @@ fn main() {
     let names = [
         "ring_clear", "ring_read", "ring_write", "ring_sum", "shape", "open", "add", "total", "far", "verdict", "rest", "wake", "run",
         "header", "raster", "score", "masked", "open_row", "add_row", "total_row", "run_row",
-        "trend",
+        "trend", "coarsen", "coarsen_row",
     ];
-    let mut tallies = names.map(|name| Tally { name, counts: [0; 19] });
+    let mut tallies = names.map(|name| Tally { name, counts: [0; 20] });
     let mut chance = Chance::new(2026);
     for _ in 0..rounds {
         slots_call(&mut chance, &mut tallies[0..4]);
@@ -670,6 +757,7 @@ fn main() {
         row_calls(&mut chance, &mut tallies[18..20]);
         run_row_call(&mut chance, &mut tallies[20]);
         trend_call(&mut chance, &mut tallies[21]);
+        coarsen_calls(&mut chance, &mut tallies[22..24]);
     }
     one_bit_sums(&mut chance, &mut tallies[3]);
     let calls: u64 = tallies.iter().flat_map(|tally| tally.counts).sum();
@@ -677,6 +765,6 @@ fn main() {
     for tally in &tallies {
         let counts = tally.counts.iter().enumerate().filter(|(_, &n)| n > 0);
         let counts: Vec<String> = counts.map(|(refusal, n)| format!("{refusal}: {n}")).collect();
-        println!("{:10}  {}", tally.name, counts.join(", "));
+        println!("{:11}  {}", tally.name, counts.join(", "));
     }
 }

@@ -1,6 +1,7 @@
 //! The calls in ordinary Rust, written to docs/SCOPE.md and not from the proved code.
 
 pub mod book;
+pub mod coarse;
 pub mod image;
 pub mod program;
 pub mod ring;
@@ -30,4 +31,5 @@ pub enum Refusal {
     ImagesDiffer = 16,
     BookRests = 17,
     RowTooShort = 18,
+    CannotCoarsen = 19,
 }

@@ -5,7 +5,7 @@ use super::ring;
 use super::Refusal;
 
 /// The slots of a group; the last group may have fewer.
-const GROUP: usize = 32;
+pub(super) const GROUP: usize = 32;
 
 /// A figure, and how many fields of the ring and stored sums of the row it is made of.
 #[derive(Clone, Copy, Debug, PartialEq, Eq)]
@@ -16,12 +16,12 @@ pub struct Summed {
 }
 
 /// The end of a slot's group: the first slot behind it, or the number of slots.
-fn group_end(slots: usize, slot: usize) -> usize {
+pub(super) fn group_end(slots: usize, slot: usize) -> usize {
     slots.min((slot / GROUP + 1) * GROUP)
 }
 
 /// How many entries the row of such a book takes.
-fn entries(shape: &Shape) -> usize {
+pub(super) fn entries(shape: &Shape) -> usize {
     shape.slots.div_ceil(GROUP)
 }
 

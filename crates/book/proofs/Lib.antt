@@ -10,6 +10,7 @@ pub mod TopBit
 pub mod RunRefused
 pub mod RingCalls
 pub mod StepsInRange
+pub mod WholeBlocks
 pub mod FigureInTwoCases
 pub mod TwoWindows
 pub mod TwoTotals
@@ -34,4 +35,5 @@ pub mod NotByTheMark
 pub mod DarkHours
 pub mod Demand1
 pub mod AsWritten
+pub mod CountedBlocks
 pub mod Promises

@@ -7,7 +7,7 @@ use mathlib.Core.Logic.{_⊎_, inl, inr}
 use mathlib.Core.Path.{_≡_, refl, sym, ap, _∙_}
 use Rattle.book.specs.Derived.{ceilDiv, blockLength, slotCount, largestQuotient, binaryDigits, fieldWidth}
 use Rattle.book.specs.Sound.{Ranges}
-use Rattle.book.proofs.RoundedUp.{le-or-lt, ceil-covers, ceil-le, ceil-low}
+use Rattle.book.proofs.RoundedUp.{le-or-lt, ceil-covers, ceil-tight, ceil-le, ceil-low}
 use Rattle.book.proofs.DigitsByLeadingZeros.{digits-high, digits-le}
 
 -- a block has at least one item
@@ -60,6 +60,11 @@ module _ (bound length tolerance : ℕ) (ranges : Ranges bound length tolerance)
   pub slots-cover : length ≤ slotCount bound length tolerance * blockLength bound tolerance
   unfolding slotCount
   slots-cover = ceil-covers length (blockLength bound tolerance) (block-low bound tolerance)
+
+  -- by less than a block too much
+  pub slots-tight : slotCount bound length tolerance * blockLength bound tolerance < length + blockLength bound tolerance
+  unfolding slotCount
+  slots-tight = ceil-tight length (blockLength bound tolerance) (block-low bound tolerance)
 
   -- the largest quotient is 1 to 65,535
   pub quotient-low : 1 ≤ largestQuotient bound tolerance

@@ -38,12 +38,15 @@ pub use Rattle.book.proofs.Demand1.{derive-promised, open-promised, add
 pub use Rattle.book.proofs.Demand1.{open-tells, verdict-leaves, verdict-tells}
 -- HOW FAR BACK. There is a smallest window whose figure reaches v, or none; it is named, or 9 is given; there is one at the most
 pub use Rattle.book.proofs.HowFarNames.{smallest-or-none, smallest-is-named, none-is-9, smallest-unique}
--- NUMBERS of a book in range: c is 1 to n, a block holds at most D or is one item, the slots cover n
-pub use Rattle.book.proofs.NumbersInRange.{block-low, block-high, block-holds, slots-low, slots-cover}
+-- NUMBERS of a book in range: c is 1 to n, a block holds at most D or is one item, the slots cover n, by less than a block too much
+pub use Rattle.book.proofs.NumbersInRange.{block-low, block-high, block-holds, slots-low, slots-cover, slots-tight}
 -- the ring of a book takes B bytes, and is lent whole
 pub use Rattle.book.proofs.StepsInRange.{bytes-needed, book-lent}
 -- the slots that a window needs: 1 to s, covering it by less than a block too much
 pub use Rattle.book.proofs.StepsInRange.{for-low, for-high, for-covers, for-tight}
+-- BLOCKS THAT D FILLS, where it is a multiple of L: a block holds D and a slot has one bit. What the numbers are of a book that counts in units (L is
+-- 1), and of one with m times the tolerance: m blocks make one, and slots and bytes are those of a book in units with a place for each old slot
+pub use Rattle.book.proofs.WholeBlocks.{whole-block, whole-width, unit-block, unit-width, coarser-ranges, coarser-block, coarser-width, coarser-slots, coarser-bytes, tally-ranges}
 -- the box's own setting takes 30 bytes
 pub use Rattle.book.proofs.BoxSetting.{box-shape}
 -- ADDING in its two cases: the block closes, or it stays open
@@ -54,6 +57,8 @@ pub use Rattle.book.proofs.StepsInRange.{quotient-le, quotient-in}
 pub use Rattle.book.proofs.StaysABook.{opened-sound, open-sound, closed-sound, closed-carry}
 -- it leaves L, n, D and the mark, and the record passes refusals 8 and 4 with the ring again; and so does one with another mark
 pub use Rattle.book.proofs.StaysABook.{SameNumbers, added-same, added-mark, added-usable, marked-sound, marked-usable}
+-- HOW MANY ITEMS a book has taken, in closed blocks and the phase, which are quotient and remainder: none, one more, and counts
+pub use Rattle.book.proofs.CountedBlocks.{in-blocks, Counted, counted-fresh, counted-more, counted-all}
 -- A RUN OF COUNTS that is taken is adding them one by one …
 pub use Rattle.book.proofs.RunIsAdding.{run-is-adding}
 -- … which comes to one record and one ring alone
@@ -70,6 +75,8 @@ pub use Rattle.book.proofs.VerdictRule.{live-by, frozen-by, resting-by,
 pub use Rattle.book.proofs.RoundedUp.{le-or-lt}
 -- FOR CALLS ABOVE that ask a fault more, or sum the slots in another way: what the definitions say, as laws
 pub use Rattle.book.proofs.AsWritten.{open-refusal, add-refusal, run-refusal, mark-refusal, total-refusal, open-number, add-number, run-number, mark-number, total-number, shape-cases, open-back, add-hands-back, run-hands-back, total-hands-back, by-open, by-slots, reckoned-is, for-is, rounded-up, all-none, all-more}
+-- what the call that derives the numbers tells: its refusal is that of L, n and D, and without one these are in their ranges and the numbers theirs
+pub use Rattle.book.proofs.WhenTaken.{shape-refusal, shape-known}
 -- a record is a book with its ring exactly where 8 and 4 are passed, and L, n and D are in their ranges where 1, 2 and 3 are; 8 and 4 one by one
 pub use Rattle.book.proofs.WhenTaken.{usable-known, usable-passes, ranges-known, ranges-pass, no-record, no-room, book-passes}
 -- how large the numbers of a book get

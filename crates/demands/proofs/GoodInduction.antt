@@ -1,4 +1,4 @@
--- The one induction over good books: what a fresh book has, and what an accepted item and another mark keep, every good book has.
+-- The one induction over good books: what a fresh book has, and what an accepted item, another mark and being made coarser keep, every good book has.
 -- Assumes nothing.
 use Prim.Native.Nat.{ℕ, _≤_}
 use mathlib.Core.List.{List, [], _∷_}
@@ -16,7 +16,12 @@ use Rattle.book.specs.Record.{opened}
 use Rattle.book.specs.Sound.{Ranges, Usable}
 use Rattle.book.specs.Adding.{added, addedRing}
 use Rattle.book.proofs.Promises.{open-known, open-gives, add-known, add-gives, mark-gives}
-use Rattle.demands.specs.History.{Upon, OnlyAsks, Good, start, adding, resting, waking, otherwise}
+use Rattle.coarse.specs.declared.Coarser.{Coarser}
+use Rattle.coarse.specs.Coarsens.{Coarsens}
+use Rattle.coarse.specs.Coarser.{coarsened, coarsenedRing}
+use Rattle.coarse.specs.Calls.{coarserBytes}
+use Rattle.coarse.proofs.Promises.{coarsen-known, coarsen-gives}
+use Rattle.demands.specs.History.{Upon, OnlyAsks, Good, start, adding, resting, waking, coarsening, otherwise}
 
 -- a call that is refused or only asks leaves the record, and what was lent, as they came
 pub nothing-changes : {Lent : Type 0} (book : Book) (lent : Lent) (call : Call Book Lent) → Upon book lent call
@@ -33,7 +38,10 @@ module _ (P : Book → List ℕ → List ℕ → Type 0)
     → P (opened bound n tolerance) (cleared (fieldWidth bound tolerance) (slotCount bound n tolerance) lent) [])
     (more : (book : Book) (ring items : List ℕ) (item : ℕ) → P book ring items → Usable book (length ring) → item ≤ book .bound
     → P (added book item) (addedRing book ring item) (item ∷ items))
-    (marks : (book : Book) (ring items : List ℕ) (mark : ℕ) → P book ring items → P (marked book mark) ring items) where
+    (marks : (book : Book) (ring items : List ℕ) (mark : ℕ) → P book ring items → P (marked book mark) ring items)
+    (coarser : (book : Book) (ring items : List ℕ) (times : ℕ) (second : List ℕ) → P book ring items → Usable book (length ring)
+    → Coarsens book times → coarserBytes book times ≤ length second
+    → P (coarsened book ring times) (coarsenedRing book ring times second) items) where
   pub good-induction : (book : Book) (ring items : List ℕ) → Good book ring items → P book ring items
   good-induction book ring items (start bound n tolerance lent e) =
       let known = open-known bound n tolerance lent e in
@@ -48,6 +56,11 @@ module _ (P : Book → List ℕ → List ℕ → Type 0)
       rw (ap (λ (r : Updated). r .book) (mark-gives old atRest e)) (marks old bytes same atRest (good-induction old bytes same good))
   good-induction book ring items (waking old bytes same good e) =
       rw (ap (λ (r : Updated). r .book) (mark-gives old awake e)) (marks old bytes same awake (good-induction old bytes same good))
+  good-induction book ring items (coarsening old bytes same good times second e) =
+      let known = coarsen-known old bytes times second e in
+      let gives = coarsen-gives old bytes times second e in
+      rw (ap (λ (r : Coarser). r .book) (gives .0), gives .1)
+      (coarser old bytes same times second (good-induction old bytes same good) (known .0) (known .1) (known .2))
   good-induction book ring items (otherwise old bytes same good call upon idle) =
       let kept = nothing-changes old bytes call upon idle in
       rw (kept .0, kept .1) (good-induction old bytes same good)

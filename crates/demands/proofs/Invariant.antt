@@ -34,7 +34,8 @@ pub record Invariant (book : Book) (held : ℕ → ℕ) (items : List ℕ) : Typ
       ≡ before (book .phase + j * blockOf book) / book .tolerance
 
 module _ (book : Book) (held : ℕ → ℕ) (items : List ℕ) (inv : Invariant book held items) where
-  falls-by : (i e : ℕ) → inv .before (i + e) ≤ inv .before i
+  -- it falls over any stretch, and by no more than L for each item
+  pub falls-by : (i e : ℕ) → inv .before (i + e) ≤ inv .before i
   falls-by i zero = rw (add-zero i) (omega arith)
   falls-by i (suc e) = rw (add-suc i e) (omega (arith, falls-by i e, inv .falls (i + e)))
 

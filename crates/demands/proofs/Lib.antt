@@ -2,6 +2,11 @@ pub mod OldestBlock
 pub mod Invariant
 pub mod FigureBounds
 pub mod InvariantKept
+pub mod BeforeIsOlder
+pub mod OlderQuotients
+pub mod SlotsNotReached
+pub mod TallyTaken
+pub mod CoarserKeeps
 pub mod GoodInduction
 pub mod IdleCalls
 pub mod GoodUsable
@@ -15,3 +20,6 @@ pub mod RunsKeepGood
 pub mod RestsKeepGood
 pub mod RowsKept
 pub mod RowCallsKeepGood
+pub mod CoarserKeepsGood
+pub mod CoarserFollows
+pub mod CoarserBehind

@@ -21,9 +21,12 @@ use Rattle.sums.specs.Row.{entriesFor, entriesOf}
 use Rattle.sums.specs.RowKept.{RowKept}
 use Rattle.sums.specs.Calls.{RingAndRow, openRowCall, addRowCall, totalRowCall}
 use Rattle.sums.proofs.Promises.{open-beside, add-beside, open-leaves-rest, add-leaves-rest, kept-by-opening, kept-by-adding, figure-same, total-beside, total-row-gives, total-row-number, total-row-refused}
+use Rattle.coarse.specs.declared.Coarser.{Coarser}
+use Rattle.coarse.specs.Calls.{coarsenRowCall}
+use Rattle.coarse.proofs.Promises.{coarsen-known, coarsen-gives, coarsen-beside, coarsened-row}
 use Rattle.demands.specs.History.{Good}
 use Rattle.demands.specs.History as history
-use Rattle.demands.specs.HistoryWithRow.{GoodWithRow, start, adding, resting, waking, otherwise}
+use Rattle.demands.specs.HistoryWithRow.{GoodWithRow, start, adding, resting, waking, coarsening, otherwise}
 use Rattle.demands.specs.Demand3.{Demand3}
 use Rattle.demands.specs.DemandsWithRow.{SameTotal, Demand2WithRow}
 use Rattle.demands.proofs.GoodInduction.{nothing-changes}
@@ -92,6 +95,26 @@ marked-with-row book lent items mark before taken good =
     let book-is = ap (λ (u : Updated). u .book) (mark-gives book mark taken) in
     record { good = good; room = rw book-is (before .room); kept = rw book-is (before .kept) }
 
+-- MADE COARSER with a row for the new ring, whatever was kept beside the old one
+coarsened-with-row : (book : Book) (ring items : List ℕ) → Good book ring items → (times : ℕ) (second : RingAndRow)
+    → refusalOf (coarsenRowCall book ring times (second .ring) (second .row)) ≡ 0
+    → KeptWithRow (resultOf (coarsenRowCall book ring times (second .ring) (second .row)) .book)
+    (leftOf (coarsenRowCall book ring times (second .ring) (second .row))) items
+coarsened-with-row book ring items good times second taken =
+    let beside = coarsen-beside book ring times (second .ring) (second .row) in
+    let same = beside .with-room (beside .had-room taken) in
+    let own = sym (same .same-refusal) ∙ taken in
+    let known = coarsen-known book ring times (second .ring) own in
+    let gives = coarsen-gives book ring times (second .ring) own in
+    let book-is = ap (λ (r : Coarser). r .book) (same .same-result) in
+    let ring-is = same .same-ring in
+    let row = coarsened-row book ring times (known .0) (known .1) (second .ring) (known .2) (second .row) (beside .had-room taken) in
+    record {
+      good = rw (book-is, ring-is) (history.coarsening book ring items good times (second .ring) own);
+      room = rw (book-is ∙ ap (λ (r : Coarser). r .book) (gives .0), beside .row-after taken) (row .1);
+      kept = rw (book-is ∙ ap (λ (r : Coarser). r .book) (gives .0), ring-is ∙ gives .1, beside .row-after taken) (row .0);
+    }
+
 pub kept-with-row : (book : Book) (lent : RingAndRow) (items : List ℕ) → GoodWithRow book lent items → KeptWithRow book lent items
 kept-with-row book lent items (start bound n tolerance both taken) = opened-with-row bound n tolerance both taken
 kept-with-row book lent items (adding old both earlier good item taken) = added-with-row old both earlier (kept-with-row old both earlier good) item taken
@@ -101,6 +124,7 @@ kept-with-row book lent items (resting old both same good taken) =
 kept-with-row book lent items (waking old both same good taken) =
     let before = kept-with-row old both same good in
     marked-with-row old both same awake before taken (history.waking old (both .ring) same (before .good) taken)
+kept-with-row book lent items (coarsening old ring same good times second taken) = coarsened-with-row old ring same good times second taken
 kept-with-row book lent items (otherwise old both same good call upon idle) =
     let unchanged = nothing-changes old both call upon idle in
     rw (unchanged .0, unchanged .1) (kept-with-row old both same good)

@@ -1,9 +1,7 @@
 -- A run from an opening (promises 2.4, B.3): an opening begins one, and items that are accepted, resting and waking, and calls that are refused
 -- or only ask, go on with it; it is a good book; and each number of its record but the mark, and each byte of its ring, is known.
 -- Assumes nothing.
-use Prim.Native.Nat.{ℕ, zero, suc, _+_, _*_, _/_, _%_, _≤_, _<_, _^_, min}
-use native.Mathlib.Nat.{mod-eq-of-lt, div-eq-of-lt, mul-add-mod-self-left, mul-add-div, zero-mod, add-zero}
-use native.Mathlib.Omega.{arith}
+use Prim.Native.Nat.{ℕ, suc, _+_, _*_, _/_, _%_, _≤_, _<_, _^_, min}
 use mathlib.Core.List.{List, [], _∷_}
 use mathlib.Core.Logic.{_⊎_, inl, inr}
 use mathlib.Core.Path.{_≡_, refl, sym, ap, ap₂, subst, _∙_}
@@ -17,14 +15,14 @@ use Rattle.book.specs.declared.Book.{Book}
 use Rattle.book.specs.declared.Updated.{Updated}
 use Rattle.book.specs.Derived.{fieldWidth, slotCount}
 use Rattle.book.specs.Resting.{awake, atRest, marked}
-use Rattle.book.specs.Record.{blockOf, slotsOf, widthOf, bytesOf, heldIn, opened}
+use Rattle.book.specs.Record.{blockOf, slotsOf, widthOf, bytesOf, opened}
 use Rattle.book.specs.Sound.{Ranges, Usable}
-use Rattle.book.specs.Adding.{quotientOf, slotAfter, added, addedRing}
+use Rattle.book.specs.Adding.{quotientOf, added, addedRing}
 use Rattle.book.specs.Calls.{openCall, addCall, markCall, restCall, wakeCall}
-use Rattle.book.proofs.Promises.{block-low, slots-low, book-lent, bytes-needed, open-known, open-gives, add-known, add-taken, add-gives, mark-taken, mark-gives, add-leaves-mark, adding-cases, SameNumbers, added-same, added-mark, quotient-in, slot-after-mod}
-use Rattle.demands.specs.History.{Upon, OnlyAsks, Good, start, adding, resting, sumOf, older}
+use Rattle.book.proofs.Promises.{book-lent, bytes-needed, open-known, open-gives, add-known, add-taken, add-gives, mark-taken, mark-gives, add-leaves-mark, adding-cases, SameNumbers, added-same, added-mark, quotient-in, in-blocks, Counted, counted-fresh, counted-more}
+use Rattle.demands.specs.History.{Upon, OnlyAsks, Good, start, adding, resting}
 use Rattle.demands.specs.RunFromOpening.{replayed, replayedRing, UpTo, FromOpening, RecordFollows, RingFollows}
-use Rattle.demands.proofs.InvariantKept.{shifted, Moved, opened-keeps, added-keeps}
+use Rattle.demands.proofs.BeforeIsOlder.{ByItems, fresh-by-items, more-by-items}
 use Rattle.demands.proofs.GoodInduction.{nothing-changes}
 use Rattle.demands.proofs.GoodUsable.{good-usable}
 
@@ -146,37 +144,6 @@ module _ (bound n tolerance : ℕ) (lent : List ℕ) where
         (good-usable book ring items (replay-good items (small .1)))
         (subst (λ b. item ≤ b) (sym (replayed-same items .bound-same)) (small .0))
 
--- COUNTS, with the number of blocks that are closed
-record Counted (book : Book) (count : ℕ) : Type 0 where
-  blocks : ℕ
-  count-is : count ≡ blockOf book * blocks + book .phase
-  phase-lt : book .phase < blockOf book
-  head-is : book .head ≡ blocks % slotsOf book
-  kept-is : book .kept ≡ min (book .length) count
-
-counted-more : (book : Book) (ring : List ℕ) (count item : ℕ) → Usable book (length ring) → Counted book count → Counted (added book item) (suc count)
-counted-more book ring count item usable h =
-    adding-cases (λ b r. Counted b (suc count)) book ring item
-    (λ closes. record {
-      blocks = h .blocks + 1;
-      count-is = omega (arith, h .count-is);
-      phase-lt = block-low (book .bound) (book .tolerance);
-      head-is =
-          ap (slotAfter (slotsOf book)) (h .head-is)
-          ∙ slot-after-mod (slotsOf book) (h .blocks) (slots-low (book .bound) (book .length) (book .tolerance) (usable .sound .ranges));
-      kept-is = kept-more;
-    })
-    (λ more. record {
-      blocks = h .blocks;
-      count-is = omega (arith, h .count-is);
-      phase-lt = omega (arith, more, h .phase-lt);
-      head-is = h .head-is;
-      kept-is = kept-more;
-    })
-  where
-    kept-more : min (book .length) (book .kept + 1) ≡ min (book .length) (suc count)
-    kept-more = omega (arith, h .kept-is)
-
 -- THE RING behind its slots: the bits after the last one, and the bytes from B on
 record Behind (lent : List ℕ) (book : Book) (ring : List ℕ) : Type 0 where
   bytes : Bytes ring
@@ -199,17 +166,6 @@ behind-more lent book ring item usable small h =
           ∙ rw (bytes-needed (book .bound) (book .length) (book .tolerance)) at (h .rest));
     }))
     (λ more. record { bytes = h .bytes; tail = h .tail; rest = h .rest })
-
--- what had come in before, after one more item
-older-more : (before : ℕ → ℕ) (items : List ℕ) (item : ℕ) → ((i : ℕ) → before i ≡ older i items) → (i : ℕ) → shifted before item i ≡ older i (item ∷ items)
-unfolding older sumOf
-older-more before items item h zero = omega (arith, h 0)
-older-more before items item h (suc i) = h i
-
-older-none : (i : ℕ) → 0 ≡ older i []
-unfolding older sumOf
-older-none zero = refl
-older-none (suc i) = refl
 
 -- a run whose record is the replay itself: what follows is said of such a run first, and with any mark then
 record Replay (bound n tolerance : ℕ) (lent : List ℕ) (book : Book) (ring items : List ℕ) : Type 0 where
@@ -236,29 +192,15 @@ module _ (bound n tolerance : ℕ) (lent : List ℕ) (book : Book) (ring items :
 
   counted : Counted book (length items)
   counted =
-      follow (λ b r l. Counted b (length l))
-      (record {
-        blocks = 0;
-        count-is = omega arith;
-        phase-lt = block-low bound tolerance;
-        head-is = sym (zero-mod (slotCount bound n tolerance));
-        kept-is = omega arith;
-      })
-      (λ b r l item h usable small. counted-more b r (length l) item usable h)
+      follow (λ b r l. Counted b (length l)) (counted-fresh bound n tolerance)
+      (λ b r l item h usable small. counted-more b (length l) item (usable .sound .ranges) h)
 
-  moved : Moved book (heldIn book ring) items (λ i. older i items)
-  unfolding opened-keeps
-  moved =
-      follow (λ b r l. Moved b (heldIn b r) l (λ i. older i l))
-      (record { inv = opened-keeps bound n tolerance _ ranges; before-is = older-none })
-      (λ b r l item h usable small.
-      (let m = added-keeps b r l (h .inv) item usable small in
-      record { inv = m .inv; before-is = λ i. m .before-is i ∙ older-more (h .inv .before) l item (h .before-is) i }))
+  moved : ByItems book ring items
+  moved = follow ByItems (fresh-by-items bound n tolerance _ ranges) more-by-items
 
   -- its record …
   replay-follows : RecordFollows bound n tolerance book items
   replay-follows =
-      let c : ℕ = blockOf book in
       let k = counted in
       let inv = moved .inv in
       record {
@@ -266,19 +208,8 @@ module _ (bound n tolerance : ℕ) (lent : List ℕ) (book : Book) (ring items :
         length-is = same .length-same;
         tolerance-is = same .tolerance-same;
         kept-is = k .kept-is ∙ ap (λ (m : ℕ). min m (length items)) (same .length-same);
-        phase-is =
-            sym
-            (ap (λ (m : ℕ). m % c) (k .count-is)
-            ∙ mul-add-mod-self-left c (k .blocks) (book .phase)
-            ∙ mod-eq-of-lt (k .phase-lt));
-        head-is =
-            k .head-is
-            ∙ ap (λ (m : ℕ). m % slotsOf book)
-            (sym
-            (ap (λ (m : ℕ). m / c) (k .count-is)
-            ∙ mul-add-div {m = c} (block-low (book .bound) (book .tolerance)) (k .blocks) (book .phase)
-            ∙ ap (λ (m : ℕ). k .blocks + m) (div-eq-of-lt (k .phase-lt))
-            ∙ add-zero (k .blocks)));
+        phase-is = in-blocks (k .count-is) (k .phase-lt) .0;
+        head-is = k .head-is ∙ ap (λ (m : ℕ). m % slotsOf book) (in-blocks (k .count-is) (k .phase-lt) .1);
         carry-is =
             rw (sym (same .tolerance-same), sym (moved .before-is (book .phase)), sym (moved .before-is 0)) (inv .carried);
       }

@@ -7,6 +7,7 @@ use lib.ListN.{take, drop}
 use Rattle.refusals.specs.Call.{Call, refusalOf, resultOf, leftOf}
 use Rattle.book.specs.declared.Book.{Book}
 use Rattle.book.specs.Calls.{openCall, addCall, restCall, wakeCall}
+use Rattle.coarse.specs.Calls.{coarsenCall}
 
 -- A call upon a record and what is lent with it, the ring or the ring with more, seen by the record that its caller goes on with: a refusal hands
 -- back the record as it came, and this was lent
@@ -20,7 +21,8 @@ OnlyAsks book lent call = (call .given ≡ book) × (call .left ≡ lent)
 
 -- Good book ring items: the record and the ring as the last call left them, and all accepted items, the newest first.
 -- It begins with an opening that is not refused, and goes on with items that are accepted, with resting and waking, which leave the ring and
--- the items, and with any call that is refused or only asks.
+-- the items, with being made coarser, which leaves the items (from then on the second ring is the book's), and with any call that is refused or
+-- only asks.
 -- A run of counts needs no case of its own: it comes to its items, one by one.
 pub data Good : Book → List ℕ → List ℕ → Type 0 where
   start : (bound n tolerance : ℕ) (lent : List ℕ) → refusalOf (openCall bound n tolerance lent) ≡ 0
@@ -31,6 +33,9 @@ pub data Good : Book → List ℕ → List ℕ → Type 0 where
       → Good (resultOf (restCall book) .book) ring items
   waking : (book : Book) (ring items : List ℕ) → Good book ring items → refusalOf (wakeCall book) ≡ 0
       → Good (resultOf (wakeCall book) .book) ring items
+  coarsening : (book : Book) (ring items : List ℕ) → Good book ring items → (times : ℕ) (second : List ℕ)
+      → refusalOf (coarsenCall book ring times second) ≡ 0
+      → Good (resultOf (coarsenCall book ring times second) .book) (leftOf (coarsenCall book ring times second)) items
   otherwise : (book : Book) (ring items : List ℕ) → Good book ring items → (call : Call Book (List ℕ)) → Upon book ring call
       → (refusalOf call ≡ 0 → ⊥) ⊎ OnlyAsks book ring call → Good (resultOf call) (leftOf call) items
 

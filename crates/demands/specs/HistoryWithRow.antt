@@ -8,11 +8,13 @@ use Rattle.refusals.specs.Call.{Call, refusalOf, resultOf, leftOf}
 use Rattle.book.specs.declared.Book.{Book}
 use Rattle.book.specs.Calls.{restCall, wakeCall}
 use Rattle.sums.specs.Calls.{RingAndRow, openRowCall, addRowCall}
-use Rattle.demands.specs.History.{Upon, OnlyAsks}
+use Rattle.coarse.specs.Calls.{coarsenRowCall}
+use Rattle.demands.specs.History.{Upon, OnlyAsks, Good}
 
 -- GoodWithRow book lent items: the record, and ring and row in `lent`, as the last call left them, and all accepted items, the newest first.
--- It is opened with the row; every item is taken with the row, as the last call left it; resting and waking leave ring, row and items; and there may
--- be any call upon record, ring and row that is refused or only asks.
+-- It is opened with the row, or a good book was made coarser with the row, whether it had been kept with a row or not: its old row is not looked at.
+-- Every item since is taken with the row, as the last call left it; resting and waking leave ring, row and items; and there may be any call upon
+-- record, ring and row that is refused or only asks.
 -- A run of counts with a row comes to its items, one by one.
 pub data GoodWithRow : Book → RingAndRow → List ℕ → Type 0 where
   start : (bound n tolerance : ℕ) (lent : RingAndRow) → refusalOf (openRowCall bound n tolerance (lent .ring) (lent .row)) ≡ 0
@@ -26,6 +28,10 @@ pub data GoodWithRow : Book → RingAndRow → List ℕ → Type 0 where
       → GoodWithRow (resultOf (restCall book) .book) lent items
   waking : (book : Book) (lent : RingAndRow) (items : List ℕ) → GoodWithRow book lent items → refusalOf (wakeCall book) ≡ 0
       → GoodWithRow (resultOf (wakeCall book) .book) lent items
+  coarsening : (book : Book) (ring items : List ℕ) → Good book ring items → (times : ℕ) (second : RingAndRow)
+      → refusalOf (coarsenRowCall book ring times (second .ring) (second .row)) ≡ 0
+      → GoodWithRow (resultOf (coarsenRowCall book ring times (second .ring) (second .row)) .book)
+      (leftOf (coarsenRowCall book ring times (second .ring) (second .row))) items
   otherwise : (book : Book) (lent : RingAndRow) (items : List ℕ) → GoodWithRow book lent items → (call : Call Book RingAndRow) → Upon book lent call
       → (refusalOf call ≡ 0 → ⊥) ⊎ OnlyAsks book lent call → GoodWithRow (resultOf call) (leftOf call) items
 

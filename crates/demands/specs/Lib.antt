@@ -6,3 +6,4 @@ pub mod TrendMeans
 pub mod RunFromOpening
 pub mod HistoryWithRow
 pub mod DemandsWithRow
+pub mod CoarserBooks

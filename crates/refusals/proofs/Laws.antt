@@ -19,7 +19,8 @@ first-append [] later = refl
 first-append ((holds gives number) ∷ earlier) later =
     rw (first-append earlier later, orElse-assoc (cond holds number 0) (firstOf earlier) (firstOf later))
 
-orElse-stops : (n m : ℕ) → (n ≡ 0 → ⊥) → n ≡ orElse n m
+-- a refusal stands before the other one
+pub orElse-stops : (n m : ℕ) → (n ≡ 0 → ⊥) → n ≡ orElse n m
 orElse-stops zero m ne = absurd (ne refl)
 orElse-stops (suc n) m ne = refl
 

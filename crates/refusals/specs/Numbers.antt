@@ -73,6 +73,10 @@ bookRests = 17
 abbrev pub rowTooShort : ℕ
 rowTooShort = 18
 
--- 23: a buffer for a line has fewer than 96 bytes (19 to 22 are kept for requests)
+-- 19: a book cannot be made coarser: D is no multiple of L, or m is not 2 to 16
+abbrev pub cannotCoarsen : ℕ
+cannotCoarsen = 19
+
+-- 23: a buffer for a line has fewer than 96 bytes (20 to 22 are kept for requests)
 abbrev pub bufferTooShort : ℕ
 bufferTooShort = 23

@@ -36,5 +36,7 @@ pub const BOOK_RESTS: u8 = 17;
 
 pub const ROW_TOO_SHORT: u8 = 18;
 
-// 23: a buffer for a line has fewer than 96 bytes (19 to 22 are kept for requests).
+pub const CANNOT_COARSEN: u8 = 19;
+
+// 23: a buffer for a line has fewer than 96 bytes (20 to 22 are kept for requests).
 pub const BUFFER_TOO_SHORT: u8 = 23;

@@ -16,6 +16,8 @@ pub mod RunTurns
 pub mod RowOfABook
 pub mod FewRead
 pub mod RowStays
+pub mod KeptByRun
+pub mod UnfinishedGroups
 pub mod RunIsAdding
 pub mod ComesBack
 pub mod Demand1

@@ -29,3 +29,13 @@ pub use Rattle.sums.proofs.FewRead.{few-read, counts-by-rule}
 pub use Rattle.sums.proofs.KeptRow.{kept-filled, kept-written, sum-by-row}
 -- of a book: opening begins it and every item that is taken keeps it; by it the figure is the book's own
 pub use Rattle.sums.proofs.RowOfABook.{kept-by-opening, kept-by-adding, figure-same}
+-- and so do counts that are added one after the other, with its room
+pub use Rattle.sums.proofs.KeptByRun.{kept-by-run}
+-- clearing a row that has room, and adding counts, leave its length and what is not used; so does a call with a row, refused or not, if it does so taken
+pub use Rattle.sums.proofs.RowStays.{cleared-rest, all-rest, by-refusal}
+-- FOR CALLS ABOVE with a row beside a call of their own: what it then is, and what it tells
+pub use Rattle.sums.proofs.BesideTheBook.{beside-the-book, with-row-tells}
+-- adding counts one after the other with a row: none, one before others, and in parts; and that a book stays one, with its numbers and its mark
+pub use Rattle.sums.proofs.PartByPart.{row-none, row-more, row-apart, Stays, still-a-book}
+-- a group that no block has finished has the entry 0, of a book that was opened with its row
+pub use Rattle.sums.proofs.UnfinishedGroups.{Unfinished, unfinished-fresh, unfinished-all}

@@ -69,7 +69,8 @@ stored-rest slots held row slot below = by (endsGroup slots slot)
         }
     by false = same-row (entriesFor slots) refl
 
-added-rest : (book : Book) (ring row : List ℕ) (item : ℕ) → Sound book → RestStays (entriesOf book) row (addedRow book ring row item)
+-- an item changes nothing of the rest
+pub added-rest : (book : Book) (ring row : List ℕ) (item : ℕ) → Sound book → RestStays (entriesOf book) row (addedRow book ring row item)
 unfolding addedRow
 added-rest book ring row item sound = by (eqb (book .phase + 1) (blockOf book))
   where
@@ -77,7 +78,8 @@ added-rest book ring row item sound = by (eqb (book .phase + 1) (blockOf book))
     by true = stored-rest (slotsOf book) (heldIn book (addedRing book ring item)) row (book .head) (sound .head-high)
     by false = same-row (entriesOf book) refl
 
-all-rest : (book : Book) (ring row counts : List ℕ) → Usable book (length ring) → anyAbove (book .bound) counts ≡ false
+-- nor do counts
+pub all-rest : (book : Book) (ring row counts : List ℕ) → Usable book (length ring) → anyAbove (book .bound) counts ≡ false
     → RestStays (entriesOf book) row (addedAllRow book ring row counts)
 all-rest book ring row [] usable small = same-row (entriesOf book) (row-none book ring row)
 all-rest book ring row (count ∷ later) usable small =
@@ -94,7 +96,7 @@ all-rest book ring row (count ∷ later) usable small =
       same-rest = (rw entries at (others .same-rest)) ∙ one .same-rest;
     })
 
-cleared-rest : (slots : ℕ) (row : List ℕ) → entriesFor slots ≤ length row → RestStays (entriesFor slots) row (clearedRow slots row)
+pub cleared-rest : (slots : ℕ) (row : List ℕ) → entriesFor slots ≤ length row → RestStays (entriesFor slots) row (clearedRow slots row)
 unfolding clearedRow
 cleared-rest slots row room =
     record {
@@ -103,7 +105,7 @@ cleared-rest slots row room =
     }
 
 -- NO CALL changes it, whatever it is called with: refused it leaves the row, and taken it leaves the rest
-by-refusal : {Result : Type 0} {own : Call Result (List ℕ)} {upTo4 : List Fault} {entries : ℕ} {row after : List ℕ} {call : Call Result RingAndRow}
+pub by-refusal : {Result : Type 0} {own : Call Result (List ℕ)} {upTo4 : List Fault} {entries : ℕ} {row after : List ℕ} {call : Call Result RingAndRow}
     → BesideTheBook own upTo4 entries row after call → (refusalOf call ≡ 0 → RestStays entries row after) → RestStays entries row (leftOf call .row)
 by-refusal {Result} {own} {upTo4} {entries} {row} {after} {call} beside rest = by (ℕ-discrete (refusalOf call) 0)
   where

@@ -14,13 +14,14 @@ pub record SameAs {Result : Type 0} (own : Call Result (List ℕ)) (call : Call 
   pub same-result : resultOf call ≡ resultOf own
   pub same-ring : leftOf call .ring ≡ leftOf own
 
--- `upTo4` are the faults up to 4, `entries` the groups of slots, `after` the row as a call that is taken leaves it
-pub record BesideTheBook {Result : Type 0} (own : Call Result (List ℕ)) (upTo4 : List Fault) (entries : ℕ) (row after : List ℕ)
+-- `earlier` are the faults that come before 18, of the book's own calls those up to 4; `entries` are the groups of slots, `after` is the row as a
+-- call that is taken leaves it
+pub record BesideTheBook {Result : Type 0} (own : Call Result (List ℕ)) (earlier : List Fault) (entries : ℕ) (row after : List ℕ)
     (call : Call Result RingAndRow) : Type 0 where
   -- with an entry for each group the call is the book's own
   pub with-room : entries ≤ length row → SameAs own call
-  -- with fewer it is refused: the faults up to 4 come first, and then 18
-  pub without-room : length row < entries → refusalOf call ≡ orElse (firstOf upTo4) rowTooShort
+  -- with fewer it is refused: the earlier faults come first, and then 18
+  pub without-room : length row < entries → refusalOf call ≡ orElse (firstOf earlier) rowTooShort
   -- where it is taken, the row had room, and is left as `after`
   pub had-room : refusalOf call ≡ 0 → entries ≤ length row
   pub row-after : refusalOf call ≡ 0 → leftOf call .row ≡ after

@@ -1,6 +1,6 @@
 -- Demand 1 and uniqueness of each exported call. Where the statement is that of the call behind it, so are its theorems: `ring-calls`,
--- `book-calls`, `sums-calls`, `trend-calls`, `image-calls` and `score-calls` say which row it is. `Post` is the statement itself, as it stands at
--- the function.
+-- `book-calls`, `sums-calls`, `trend-calls`, `coarse-calls`, `image-calls` and `score-calls` say which row it is. `Post` is the statement itself, as
+-- it stands at the function.
 -- Assumes nothing.
 use Prim.Native.Nat.{ℕ}
 use mathlib.Core.List.{List}
@@ -27,6 +27,9 @@ use Rattle.sums.proofs.Promises as sums-calls
 use Rattle.trend.specs.declared.Answer as trend-answer
 use Rattle.trend.specs.Trend.{trendCall}
 use Rattle.trend.proofs.Promises as trend-calls
+use Rattle.coarse.specs.declared.Coarser.{Coarser}
+use Rattle.coarse.specs.Calls.{coarsenCall, coarsenRowCall}
+use Rattle.coarse.proofs.Promises as coarse-calls
 use Rattle.image.specs.declared.Numbers.{Numbers}
 use Rattle.image.specs.Reading.{headerCall}
 use Rattle.image.proofs.Demand1 as image-calls
@@ -55,6 +58,8 @@ use Rattle.uprzezar.proofs.of_sums.uprzezar_add_row.Reads as add-row-re
 use Rattle.uprzezar.proofs.of_sums.uprzezar_run_row.Reads as run-row-reads
 use Rattle.uprzezar.proofs.of_sums.uprzezar_total_row.Reads as total-row-reads
 use Rattle.uprzezar.proofs.of_trend.uprzezar_trend.Reads as trend-reads
+use Rattle.uprzezar.proofs.of_coarse.uprzezar_coarsen.Reads as coarsen-reads
+use Rattle.uprzezar.proofs.of_coarse.uprzezar_coarsen_row.Reads as coarsen-row-reads
 use Rattle.uprzezar.proofs.of_images.uprzezar_header.Reads as header-reads
 use Rattle.uprzezar.proofs.of_images.uprzezar_raster.Reads as raster-reads
 use Rattle.uprzezar.proofs.of_images.uprzezar_score.Reads as score-reads
@@ -144,6 +149,19 @@ module _ (κs : Lfts 1) where
   pub trend-promised : Promised (trend-reads.Post κs) (λ r. r) (λ a e. now (a .1 .0))
       (λ a. trendCall (a .0) (now (a .1 .0)) (a .1 .1 .0)) (λ (r : trend-answer.Answer). r .refusal)
   trend-promised = trend-calls.trend-promised κs
+
+-- A COARSER BOOK. The second ring is what is left; the first is lent to be read alone …
+module _ (κs : Lfts 2) where
+  pub coarsen-promised : Promised (coarsen-reads.Post κs) (λ r. r) (λ a e. now (e .1 .1 .1 .0))
+      (λ a. coarsenCall (a .0) (now (a .1 .0)) (a .1 .1 .0) (now (a .1 .1 .1 .0))) (λ (r : Coarser). r .refusal)
+  coarsen-promised = coarse-calls.coarsen-promised κs
+
+-- … and a row beside the second
+module _ (κs : Lfts 3) where
+  pub coarsen-row-promised : Promised (coarsen-row-reads.Post κs) (λ r. r)
+      (λ a e. record { ring = now (e .1 .1 .1 .0); row = now (e .1 .1 .1 .1 .0) })
+      (λ a. coarsenRowCall (a .0) (now (a .1 .0)) (a .1 .1 .0) (now (a .1 .1 .1 .0)) (now (a .1 .1 .1 .1 .0))) (λ (r : Coarser). r .refusal)
+  coarsen-row-promised = coarse-calls.coarsen-row-promised κs
 
 -- IMAGES. The raster's place is the header's answer seen in another form
 module _ (κs : Lfts 1) where

@@ -1,5 +1,6 @@
 // Standard input, line by line.
 use crate::books;
+use crate::coarser;
 use crate::fields::place;
 use crate::images;
 use crate::rings;
@@ -16,11 +17,8 @@ struct State {
     more: bool,
 }
 
-fn known(line: &[u8], first: &mut [u8], second: &mut [u8], out: &mut [u8]) -> usize {
-    let ring = rings::answer(line, first, out);
-    if ring != 0 {
-        return ring;
-    }
+// The calls on a book.
+fn of_book(line: &[u8], first: &mut [u8], second: &mut [u8], out: &mut [u8]) -> usize {
     let book = books::answer(line, first, out);
     if book != 0 {
         return book;
@@ -32,6 +30,18 @@ fn known(line: &[u8], first: &mut [u8], second: &mut [u8], out: &mut [u8]) -> us
     let of_two_windows = trends::answer(line, first, out);
     if of_two_windows != 0 {
         return of_two_windows;
+    }
+    coarser::answer(line, first, second, out)
+}
+
+fn known(line: &[u8], first: &mut [u8], second: &mut [u8], out: &mut [u8]) -> usize {
+    let ring = rings::answer(line, first, out);
+    if ring != 0 {
+        return ring;
+    }
+    let book = of_book(line, first, second, out);
+    if book != 0 {
+        return book;
     }
     images::answer(line, first, second, out)
 }
