@@ -5,23 +5,26 @@
  * and keeps nothing between calls.
  *
  * What you must keep:
- *   - a pointer and the length behind it name bytes, counts of eight bytes each, or a row's entries of four bytes each, that are yours to
- *     read for the whole call (and to write, where the pointer is not const); the pointer is not null, not even where the length is 0, and
- *     is aligned as its type asks;
+ *   - a pointer and the length behind it name bytes, counts of eight bytes each, a row's entries of four bytes each, or records of zones,
+ *     that are yours to read for the whole call (and to write, where the pointer is not const); the pointer is not null, not even where the
+ *     length is 0, and is aligned as its type asks;
  *   - while a call runs, nobody else writes those bytes, and bytes lent for writing overlap no others that are lent to that call.
  *
  * What you may leave to us: everything else. Any number, any record, any ring bytes, any row, any image, any mask and any length get an
  * answer, and every answer is proved to be the one that the library's definitions lay down (docs/SCOPE.md has them in words). A refusal
  * comes as a number above 0; then the other numbers of the answer are 0 (but for the place that comes with 7 of uprzezar_run and
- * uprzezar_run_row), the record is handed back as it came (opening hands back zeros), and no lent byte has changed. Where several refusals
- * apply, the first in the order given at the function is the one.
+ * uprzezar_run_row, and the zone that comes with 8, 17 and 7 of uprzezar_zones_add and uprzezar_zone_add), the record is handed back as it
+ * came (opening hands back zeros), and no lent byte, and no lent record, has changed. Where several refusals apply, the first in the order
+ * given at the function is the one.
  *
  * A book from a good start is one that uprzezar_open or uprzezar_open_row opened without a refusal; each call since has got the latest
  * record, and the ring as the last call left it, changed by nothing else (no call of the ring alone, no second book in it).
  * So is the book that uprzezar_coarsen or uprzezar_coarsen_row made of such a one without a refusal, with the record that it gave and the
  * second ring.
+ * A zone's record and stretch are such a book under the same conditions, uprzezar_zones_add and uprzezar_zone_add being among its calls.
  * What is said below of true totals, and of what a window truly holds, holds for such a book, over the items that uprzezar_add,
- * uprzezar_run, uprzezar_add_row and uprzezar_run_row accepted, those from before it was made coarser too.
+ * uprzezar_run, uprzezar_add_row, uprzezar_run_row, uprzezar_zones_add and uprzezar_zone_add accepted for it, those from before it was made
+ * coarser too.
  * Any other record, or ring, still gets the one answer that is laid down for it; only, that answer says nothing of the items.
  * A total by a row asks for more than a good start: "The book with a row" below says what.
  */
@@ -41,10 +44,10 @@ enum {
     UPRZEZAR_BAD_BOUND = 1,        /* the bound is not 1 to 65,535 */
     UPRZEZAR_BAD_LENGTH = 2,       /* the length is not 1 to 4,096 */
     UPRZEZAR_BAD_TOLERANCE = 3,    /* the tolerance is 0, or it, or that of a coarser book, is above length times bound */
-    UPRZEZAR_RING_TOO_SHORT = 4,   /* the ring, or the second ring, has too few bytes */
+    UPRZEZAR_RING_TOO_SHORT = 4,   /* the ring, the second ring, or the rings of all zones, have too few bytes */
     UPRZEZAR_WINDOW_TOO_LONG = 5,  /* the window, or twice the window of a trend, is longer than what is kept */
     UPRZEZAR_ZERO_ASKED = 6,       /* the amount is 0, or the window of a verdict is */
-    UPRZEZAR_ITEM_TOO_LARGE = 7,   /* the item, or a count of a run, is above the bound */
+    UPRZEZAR_ITEM_TOO_LARGE = 7,   /* the item, or a count of a run or of a zone, is above the bound */
     UPRZEZAR_NO_BOOK = 8,          /* the record is none that a book can have */
     UPRZEZAR_NOT_REACHED = 9,      /* no window that is kept reaches the amount */
     UPRZEZAR_RING_CALL = 10,       /* the ring's own calls: the width is not 1 to 16, the slots are not 1 to 4,096, there is no such slot,
@@ -57,7 +60,8 @@ enum {
     UPRZEZAR_IMAGES_DIFFER = 16,   /* the two images differ in width, height or maxval, or the mask has another width or height */
     UPRZEZAR_BOOK_RESTS = 17,      /* the book rests, and takes no items */
     UPRZEZAR_ROW_TOO_SHORT = 18,   /* the row has fewer entries than the ring has groups of 32 slots, a last part of a group counted too */
-    UPRZEZAR_CANNOT_COARSEN = 19   /* the tolerance is no multiple of the bound, or is to be taken fewer than 2 or more than 16 times */
+    UPRZEZAR_CANNOT_COARSEN = 19,  /* the tolerance is no multiple of the bound, or is to be taken fewer than 2 or more than 16 times */
+    UPRZEZAR_BAD_ZONES = 20        /* there are no zones or more than 96, no zone has that number, or there are not as many counts */
 };
 
 /* The verdicts. What they say of the window is for a book from a good start: the latest record, and a ring changed by nothing else. */
@@ -115,6 +119,12 @@ typedef struct {
     uint64_t bytes;
     uprzezar_book book;
 } uprzezar_coarser;
+
+/* With refusals 8, 17 and 7 `zone` is the number, from 0, of the zone that the refusal is for; otherwise it is 0. */
+typedef struct {
+    uint8_t refusal;
+    uint64_t zone;
+} uprzezar_zoned;
 
 typedef struct {
     uint8_t refusal;
@@ -194,6 +204,7 @@ UPRZEZAR_ASSERT(sizeof(uprzezar_ran) == 80 && offsetof(uprzezar_ran, place) == 8
 UPRZEZAR_ASSERT(offsetof(uprzezar_ran, book) == 16, "ran");
 UPRZEZAR_ASSERT(sizeof(uprzezar_coarser) == 80 && offsetof(uprzezar_coarser, bytes) == 8, "coarser");
 UPRZEZAR_ASSERT(offsetof(uprzezar_coarser, book) == 16, "coarser");
+UPRZEZAR_ASSERT(sizeof(uprzezar_zoned) == 16 && offsetof(uprzezar_zoned, zone) == 8, "zoned");
 UPRZEZAR_ASSERT(sizeof(uprzezar_figure) == 16 && offsetof(uprzezar_figure, figure) == 8, "figure");
 UPRZEZAR_ASSERT(sizeof(uprzezar_summed) == 32 && offsetof(uprzezar_summed, figure) == 8, "summed");
 UPRZEZAR_ASSERT(offsetof(uprzezar_summed, fields) == 16 && offsetof(uprzezar_summed, sums) == 24, "summed");
@@ -213,6 +224,9 @@ UPRZEZAR_ASSERT(offsetof(uprzezar_raster_place, length) == 16, "raster place");
 
 /* No book's row takes more entries. */
 #define UPRZEZAR_ROW_MOST 128
+
+/* The most zones. */
+#define UPRZEZAR_ZONES_MOST 96
 
 /* The book. */
 
@@ -271,12 +285,12 @@ uprzezar_trended uprzezar_trend(uprzezar_book book, const uint8_t *ring, size_t 
    slot 0 and all slots up to this one hold together. Lend (slots + 31) / 32 entries, with the slots that uprzezar_shape tells, or
    UPRZEZAR_ROW_MOST, which are enough for every book; entries behind those that a book uses are never touched.
 
-   A row is KEPT beside its book if uprzezar_open_row opened the two, or uprzezar_coarsen_row made them (below); if each call with a row since
-   was lent the row just as the call with a row before it had left it, changed by nothing else; and if every item since was taken by
-   uprzezar_add_row or uprzezar_run_row (where uprzezar_add or uprzezar_run took one, a sum may be missing, and nothing tells you so). Then,
-   for a book from a good start, the figure of uprzezar_total_row is that of uprzezar_total, whatever the window, and all that is said of the
-   one holds of the other. For a row that holds other numbers, a written rule (docs/SCOPE.md, Running sums) still fixes the answer; only,
-   that answer says nothing of the items, and may be above their total.
+   A row is KEPT beside its book if uprzezar_open_row opened the two, or uprzezar_coarsen_row made them (below); if each call with a row
+   since was lent the row just as the call with a row before it had left it, changed by nothing else; and if every item since was taken by
+   uprzezar_add_row or uprzezar_run_row (where uprzezar_add, uprzezar_run or a call for zones took one, a sum may be missing, and nothing
+   tells you so). Then, for a book from a good start, the figure of uprzezar_total_row is that of uprzezar_total, whatever the window, and
+   all that is said of the one holds of the other. For a row that holds other numbers, a written rule (docs/SCOPE.md, Running sums) still
+   fixes the answer; only, that answer says nothing of the items, and may be above their total.
 
    How far back, the verdict, the trend, resting and waking have no call with a row: ask with record and ring as before. A row that was kept
    stays so. */
@@ -328,6 +342,25 @@ uprzezar_coarser uprzezar_coarsen(uprzezar_book book, const uint8_t *ring, size_
    the second ring, 18. */
 uprzezar_coarser uprzezar_coarsen_row(uprzezar_book book, const uint8_t *ring, size_t ring_bytes, uint64_t times, uint8_t *second,
                                       size_t second_bytes, uint32_t *row, size_t row_entries);
+
+/* Zones: a book for each part of the picture.
+
+   The records stand in an array, and are changed in place. The rings stand in one slice of bytes: that of zone 0 takes its first bytes, as
+   many as its own book takes (uprzezar_shape), and that of every other zone stands directly behind that of the zone before it. Zones may
+   have bounds, lengths and tolerances of their own. Open each one with uprzezar_open in its own stretch; ask it, put it to rest and wake it
+   with its record and its stretch. Where a zone comes to take another number of bytes, opened anew or made coarser, every stretch behind
+   its own starts elsewhere: move those bytes too. Bytes behind the last stretch are left alone. */
+
+/* Adds to each zone the count that stands in its place, to all or to none: where it is not refused, it comes to the same as one
+   uprzezar_zone_add for each zone, in any order. Records, rings and counts do not overlap. Refusals: 20 (also where `how_many` is not
+   `zone_count`); 8 for the lowest zone whose record is none; 4 where the bytes are fewer than all rings take; 17 or 7 for the lowest zone
+   that rests or whose count is above its bound (17 where both hold of it). */
+uprzezar_zoned uprzezar_zones_add(uprzezar_book *zones, size_t zone_count, uint8_t *rings, size_t ring_bytes, const uint64_t *counts,
+                                  size_t how_many);
+
+/* Adds one item to one zone: the record and the ring of every other zone are as they were. Refusals: 20 (also where `zone` is not below
+   `zone_count`); 8 and 4 as above, of all zones; 17, 7 of this zone alone. */
+uprzezar_zoned uprzezar_zone_add(uprzezar_book *zones, size_t zone_count, uint8_t *rings, size_t ring_bytes, uint64_t zone, uint64_t item);
 
 /* Images: binary PGM with maxval 1 to 65,535. Above maxval 255 each pixel is two bytes, the higher first; otherwise it is one.
 

@@ -1,15 +1,18 @@
 """A line of the vectors' format and its answer: what a call's arguments are read from, and how what it gives is written.
 
-Every call of model.py, row_model.py and coarse_model.py has its name here, and what it takes.
+Every call of model.py, row_model.py, coarse_model.py and zone_model.py has its name here, and what it takes.
 """
 
 import coarse_model
 import model
 import row_model
+import zone_model
 
 MOST_BYTES = 32768
 # In a row, be it one of counts or one of sums.
 MOST_NUMBERS = 16384
+# One more than a call takes.
+MOST_RECORDS = zone_model.MOST_ZONES + 1
 # The program's own limit: a line that fills its buffer of 600,000 bytes cannot be read.
 LONGEST_LINE = 599999
 
@@ -52,6 +55,16 @@ def take_record(text):
     return model.Record(*numbers)
 
 
+def take_records(text):
+    """Records joined by semicolons, `-` for none; more than 97 are not taken."""
+    if text == "-":
+        return ()
+    parts = text.split(";")
+    if len(parts) > MOST_RECORDS:
+        raise Unreadable
+    return tuple(take_record(part) for part in parts)
+
+
 def take_counts(text):
     """Numbers joined by commas, `-` for none; more than 16,384 are not taken."""
     if text == "-":
@@ -77,10 +90,12 @@ def show(value):
         return ",".join(str(number) for number in value) or "-"
     if isinstance(value, model.Record):
         return ",".join(str(number) for number in value)
+    if isinstance(value, tuple):
+        return ";".join(show(record) for record in value) or "-"
     return str(value)
 
 
-N, Y, A, R, C, S = take_number, take_bytes, take_byte, take_record, take_counts, take_sums
+N, Y, A, R, Z, C, S = take_number, take_bytes, take_byte, take_record, take_records, take_counts, take_sums
 
 CALLS = {
     "ring_clear": (model.ring_clear, (N, N, Y)),
@@ -103,6 +118,8 @@ CALLS = {
     "total_row": (row_model.total_row, (R, Y, S, N)),
     "coarsen": (coarse_model.coarsen, (R, Y, N, Y)),
     "coarsen_row": (coarse_model.coarsen_row, (R, Y, N, Y, S)),
+    "zones_add": (zone_model.add_all, (Z, Y, C)),
+    "zone_add": (zone_model.add_one, (Z, Y, N, N)),
     "pgm": (model.pgm, (Y,)),
     "score": (model.score, (N, A, Y, Y)),
     "score_mask": (model.score_mask, (N, A, Y, Y, Y)),
@@ -117,6 +134,18 @@ def read(line):
     if call is None or len(fields) != 1 + len(kinds):
         raise Unreadable
     return call, [kind(text) for kind, text in zip(kinds, fields[1:])]
+
+
+def among(lines, *calls):
+    """Those of the lines that one of these calls can be read from, with its arguments and what it gives."""
+    for line in lines:
+        if CALLS.get(line.split(" ", 1)[0], (None,))[0] not in calls:
+            continue
+        try:
+            call, arguments = read(line)
+        except Unreadable:
+            continue
+        yield line, arguments, call(*arguments)
 
 
 def answer(line):

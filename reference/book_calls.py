@@ -90,7 +90,11 @@ def questions(rng, life):
 
 def any_book(rng):
     """A record that passes 8, with nothing true about its history, and any bytes for its ring."""
-    L, n, D = numbers_of_a_book(rng)
+    return any_history(rng, *numbers_of_a_book(rng))
+
+
+def any_history(rng, L, n, D):
+    """The same with these numbers."""
     c = model.block_length(L, D)
     p = rng.randrange(min(c, n + 1))
     R = rng.choice([0, D - 1 + p * L, rng.randint(0, D - 1 + p * L)])

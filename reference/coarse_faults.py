@@ -61,15 +61,9 @@ def other_histories(rng, r, ring, second):
 
 def taken(lines):
     """The calls among these lines that make a book coarser: the line, the arguments, and what it gives."""
-    for line in lines:
-        try:
-            called, arguments = answers.read(line)
-        except answers.Unreadable:
-            continue
-        if called in (coarse_model.coarsen, coarse_model.coarsen_row):
-            refusal, *given = called(*arguments)
-            if not refusal:
-                yield line, arguments, given
+    for line, arguments, (refusal, *given) in answers.among(lines, coarse_model.coarsen, coarse_model.coarsen_row):
+        if not refusal:
+            yield line, arguments, given
 
 
 def history_faults(lines):

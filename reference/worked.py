@@ -1,5 +1,5 @@
 """Figures worked by hand, as calls and answers: the cases A to G of docs/SCOPE.md, slots of one bit, books at rest, books with a row of sums,
-trends, coarser books, comments in headers, pixels of two bytes, masks, and the lines of the vectors' format.
+trends, coarser books, zones, comments in headers, pixels of two bytes, masks, and the lines of the vectors' format.
 
 The model is held to them each time the vectors are made. They stand first in the section of their name.
 """
@@ -9,6 +9,9 @@ import model
 
 A = "5,6,10,13,1,6,0,0 40"
 A_AT_REST = "5,6,10,13,1,6,0,1 40"
+# Records of cases A to C as zones; one of A's that is none.
+ZONE_A, ZONE_B, ZONE_C = "5,6,10,13,1,6,0,0", "3,4,2,1,0,4,0,0", "9,3,1,0,0,3,1,0"
+ZONE_AT_REST, NO_ZONE = "5,6,10,13,1,6,0,1", "5,6,10,15,1,6,0,0"
 # Record, ring and row: 33, 65 and 128 slots of one bit after so many items of 1, and then of 0.
 ONES_33 = "1,33,1,0,0,33,0,0 ffffffff80 32,33"
 ONES_33_AND_0 = "1,33,1,0,0,33,1,0 7fffffff80 32,33"
@@ -318,6 +321,53 @@ FIGURES = {
         (f"coarsen {A} 02 ff", "0 5,6,20,23,1,5,1,0 1 00"),
         *((f"coarsen_row {A} 2 ff{rest}", "?") for rest in ("", " 4294967296", " 1 1")),
         (f"coarsen_row {A} 2 ff 4294967295", "0 5,6,20,23,1,5,1,0 1 00 0"),
+    ],
+    # Cases A, B and C with an item more, 2, 2 and 7. In A the block is closed as above. In B, R is 3: quotient 1 goes into slot 0, two bits wide, of
+    # 00 10 00 01. In C quotient 7 goes into slot 1, four bits wide, of 2 0 4. Then each alone, and a byte behind all of them.
+    "zones: cases A, B and C": [
+        (
+            f"zones_add {ZONE_A};{ZONE_B};{ZONE_C} 40212040 2,2,7",
+            "0 0 5,6,10,5,0,6,1,0;3,4,2,1,0,4,1,0;9,3,1,0,0,3,2,0 c0612740",
+        ),
+        (f"zone_add {ZONE_A};{ZONE_B};{ZONE_C} 40212040 0 2", f"0 0 5,6,10,5,0,6,1,0;{ZONE_B};{ZONE_C} c0212040"),
+        (f"zone_add {ZONE_A};{ZONE_B};{ZONE_C} 40212040 1 2", f"0 0 {ZONE_A};3,4,2,1,0,4,1,0;{ZONE_C} 40612040"),
+        (f"zone_add {ZONE_A};{ZONE_B};{ZONE_C} 40212040 2 7", f"0 0 {ZONE_A};{ZONE_B};9,3,1,0,0,3,2,0 40212740"),
+        (f"zones_add {ZONE_C};{ZONE_A} 204040ff 7,2", "0 0 9,3,1,0,0,3,2,0;5,6,10,5,0,6,1,0 2740c0ff"),
+    ],
+    "zones: how many": [
+        ("zones_add - - -", "20 0 - -"),
+        ("zone_add - ff 0 2", "20 0 - ff"),
+        (f"zones_add {';'.join(['1,1,1,0,0,0,0,0'] * 96)} {'00' * 96} {','.join('1' * 96)}", f"0 0 {';'.join(['1,1,1,0,0,1,0,0'] * 96)} {'80' * 96}"),
+        (f"zones_add {';'.join(['1,1,1,0,0,0,0,0'] * 97)} - {','.join('1' * 97)}", f"20 0 {';'.join(['1,1,1,0,0,0,0,0'] * 97)} -"),
+    ],
+    # A zone of 2 is the third. Another number of counts, then 8, then 4, then 17 and 7 of the lower zone, and of one zone 17.
+    "zones: the order of refusals": [
+        (f"zone_add {NO_ZONE};{NO_ZONE} - 2 6", f"20 0 {NO_ZONE};{NO_ZONE} -"),
+        (f"zones_add {NO_ZONE};{NO_ZONE} - 6", f"20 0 {NO_ZONE};{NO_ZONE} -"),
+        (f"zones_add {ZONE_AT_REST};{NO_ZONE} - 6,6", f"8 1 {ZONE_AT_REST};{NO_ZONE} -"),
+        (f"zones_add {NO_ZONE};{NO_ZONE} - 6,6", f"8 0 {NO_ZONE};{NO_ZONE} -"),
+        (f"zones_add {ZONE_AT_REST};{ZONE_A} 40 6,6", f"4 0 {ZONE_AT_REST};{ZONE_A} 40"),
+        (f"zones_add {ZONE_AT_REST};{ZONE_A} 4040 6,6", f"17 0 {ZONE_AT_REST};{ZONE_A} 4040"),
+        (f"zones_add {ZONE_A};{ZONE_AT_REST} 4040 6,6", f"7 0 {ZONE_A};{ZONE_AT_REST} 4040"),
+        (f"zones_add {ZONE_A};{ZONE_AT_REST} 4040 2,6", f"17 1 {ZONE_A};{ZONE_AT_REST} 4040"),
+        (f"zones_add {ZONE_A};{ZONE_A} 4040 2,6", f"7 1 {ZONE_A};{ZONE_A} 4040"),
+    ],
+    # Another zone that rests, or whose L is below the item, is no fault; one that is no book is, and so is a ring that its stretch lacks.
+    "zones: one zone, and faults of the others": [
+        (f"zone_add {ZONE_A};{ZONE_AT_REST} 4040 0 2", f"0 0 5,6,10,5,0,6,1,0;{ZONE_AT_REST} c040"),
+        (f"zone_add {ZONE_A};{ZONE_AT_REST} 4040 1 6", f"17 1 {ZONE_A};{ZONE_AT_REST} 4040"),
+        (f"zone_add {ZONE_A};{ZONE_C} 402040 1 7", f"0 0 {ZONE_A};9,3,1,0,0,3,2,0 402740"),
+        (f"zone_add {ZONE_A};{ZONE_C} 402040 0 7", f"7 0 {ZONE_A};{ZONE_C} 402040"),
+        (f"zone_add {ZONE_A};{NO_ZONE} 4040 0 2", f"8 1 {ZONE_A};{NO_ZONE} 4040"),
+        (f"zone_add {ZONE_A};{ZONE_C} 4020 0 2", f"4 0 {ZONE_A};{ZONE_C} 4020"),
+    ],
+    "zones: lines that cannot be read, and some that just can": [
+        *((f"zones_add {ZONE_A}{rest}", "?") for rest in ("; 40 2", ",0 40 2", ";- 40 2", " 40", " 40 2 2", " 40 2;2", f";;{ZONE_A} 4040 2,2")),
+        (f"zones_add {ZONE_A} 40 02", "0 0 5,6,10,5,0,6,1,0 c0"),
+        *((f"zone_add {ZONE_A} 40 {rest}", "?") for rest in ("0", "0 2 2", "-1 2", "0 -", "18446744073709551616 2")),
+        (f"zone_add {ZONE_A} 40 18446744073709551615 2", f"20 0 {ZONE_A} 40"),
+        (f"zones_add {';'.join([ZONE_A] * 97)} - -", f"20 0 {';'.join([ZONE_A] * 97)} -"),
+        (f"zones_add {';'.join([ZONE_A] * 98)} - -", "?"),
     ],
     # Rings all 1: the slots count, and nothing behind them; one byte is too short for 12. Then slots 4 to 7 and 12 are 1, of 13; and of 72 the
     # first and the last.

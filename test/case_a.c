@@ -1,6 +1,6 @@
 /* Case A of docs/SCOPE.md, through the header, item by item and as one run, its book at rest, its trends, its book with a row and made
-   coarser, larger books with a row and made coarser, the small pictures of its program, pictures of two bytes a pixel, headers with comments,
-   and pictures under masks; the shapes of its book and of the box's. */
+   coarser, larger books with a row and made coarser, its book and another as two zones, 96 zones, the small pictures of its program, pictures
+   of two bytes a pixel, headers with comments, and pictures under masks; the shapes of its book and of the box's. */
 #include "../include/uprzezar.h"
 
 #include <inttypes.h>
@@ -490,6 +490,205 @@ static void coarser(void) {
     coarser_windows(1, 4096, 1, 5983, 16, 3000);
 }
 
+/* Two zones and one byte behind their stretches, of which so many bytes are lent. */
+typedef struct {
+    uprzezar_book zones[2];
+    uint8_t rings[3];
+    size_t bytes;
+} pair;
+
+/* Zone 0 is case A; zone 1 is opened in the byte behind it. */
+static void open_pair(pair *z) {
+    static const uint64_t items[] = {3, 4, 5, 5, 0, 1, 5};
+    z->bytes = 2;
+    memset(z->rings, 0xff, sizeof z->rings);
+    z->zones[0] = uprzezar_open(5, 6, 10, z->rings, 1).book;
+    z->zones[0] = uprzezar_run(z->zones[0], z->rings, 1, items, sizeof items / sizeof *items).book;
+    z->zones[1] = uprzezar_open(3, 4, 2, z->rings + 1, 1).book;
+}
+
+static void print_pair(const char *call, uprzezar_zoned a, const pair *z) {
+    size_t i;
+    printf("%s: refusal %u, zone %" PRIu64 ":", call, a.refusal, a.zone);
+    for (i = 0; i < 2; i++) {
+        uprzezar_book b = z->zones[i];
+        printf(" %" PRIu64 " %" PRIu64 " %" PRIu64 ", carry %" PRIu64 ", phase %" PRIu64 ", kept %" PRIu64 ", head %" PRIu64
+               ", resting %" PRIu64 ";",
+               b.bound, b.length, b.tolerance, b.carry, b.phase, b.kept, b.head, b.resting);
+    }
+    printf(" rings %02x %02x %02x\n", z->rings[0], z->rings[1], z->rings[2]);
+}
+
+/* Adds two counts, or the first one alone, to the two zones. */
+static void add_to_pair(pair *z, uint64_t first, uint64_t second, size_t how_many) {
+    uint64_t counts[2];
+    counts[0] = first;
+    counts[1] = second;
+    print_pair("zones_add", uprzezar_zones_add(z->zones, 2, z->rings, z->bytes, counts, how_many), z);
+}
+
+static void add_to_zone(pair *z, uint64_t zone, uint64_t item) {
+    print_pair("zone_add", uprzezar_zone_add(z->zones, 2, z->rings, z->bytes, zone, item), z);
+}
+
+/* Both at once; what is refused takes nothing. Then the order of the refusals: all of them hold at first, and then one less each time. */
+static void all_of_two_zones(void) {
+    pair z;
+    open_pair(&z);
+    add_to_pair(&z, 2, 3, 2);
+    open_pair(&z);
+    add_to_pair(&z, 6, 4, 2);
+    add_to_pair(&z, 2, 4, 2);
+    z.zones[0] = uprzezar_rest(z.zones[0]).book;
+    z.zones[1].phase = 1;
+    z.bytes = 1;
+    add_to_pair(&z, 2, 4, 1);
+    add_to_pair(&z, 2, 4, 2);
+    z.zones[1].phase = 0;
+    add_to_pair(&z, 2, 4, 2);
+    z.bytes = 2;
+    add_to_pair(&z, 2, 4, 2);
+    z.zones[0] = uprzezar_wake(z.zones[0]).book;
+    add_to_pair(&z, 2, 4, 2);
+    z.zones[1] = uprzezar_rest(z.zones[1]).book;
+    add_to_pair(&z, 6, 4, 2);
+    add_to_pair(&z, 2, 4, 2);
+    z.zones[1] = uprzezar_wake(z.zones[1]).book;
+    z.bytes = 3;
+    add_to_pair(&z, 2, 3, 2);
+}
+
+/* One after the other, the second one first: all bytes are lent, and the one behind the stretches is left alone. Then the refusals, one less
+   each time: 8 and 4 are asked of both zones, 17 and 7 of the one alone. */
+static void each_of_two_zones(void) {
+    pair z;
+    open_pair(&z);
+    z.bytes = 3;
+    add_to_zone(&z, 1, 3);
+    add_to_zone(&z, 0, 2);
+    open_pair(&z);
+    z.zones[0] = uprzezar_rest(z.zones[0]).book;
+    z.zones[1].resting = UINT64_MAX;
+    z.zones[0].phase = 2;
+    z.bytes = 1;
+    add_to_zone(&z, 2, 4);
+    add_to_zone(&z, UINT64_MAX, 4);
+    add_to_zone(&z, 1, 4);
+    z.zones[0].phase = 1;
+    add_to_zone(&z, 1, 4);
+    z.bytes = 2;
+    add_to_zone(&z, 1, 4);
+    z.zones[1] = uprzezar_wake(z.zones[1]).book;
+    add_to_zone(&z, 1, 4);
+    add_to_zone(&z, 1, 3);
+    add_to_zone(&z, 0, 2);
+}
+
+/* As many zones as there may be, with one record and one count more; beside each of them a single book in a ring of its own. */
+typedef struct {
+    uprzezar_book zones[UPRZEZAR_ZONES_MOST + 1];
+    uint8_t rings[UPRZEZAR_ZONES_MOST * 32];
+    size_t bytes;
+    uint64_t counts[UPRZEZAR_ZONES_MOST + 1];
+    uprzezar_book single[UPRZEZAR_ZONES_MOST];
+    uint8_t ring[UPRZEZAR_ZONES_MOST][32];
+} many;
+
+/* Bounds are 1 to 96, lengths 5 to 34, blocks of 1 to 4 items, slots of 1 to 5 bits; the last record is that of zone 0 once more. */
+static void open_many(many *m) {
+    size_t i;
+    m->bytes = 0;
+    memset(m->rings, 0xff, sizeof m->rings);
+    memset(m->ring, 0xff, sizeof m->ring);
+    for (i = 0; i < UPRZEZAR_ZONES_MOST; i++) {
+        uint64_t bound = i + 1;
+        uint64_t length = 5 + i % 30;
+        uint64_t tolerance = 1 + item_at(i, 5 * bound - 1);
+        m->zones[i] = uprzezar_open(bound, length, tolerance, m->rings + m->bytes, 32).book;
+        m->single[i] = uprzezar_open(bound, length, tolerance, m->ring[i], 32).book;
+        m->bytes += uprzezar_shape(bound, length, tolerance).shape.bytes;
+    }
+    m->zones[UPRZEZAR_ZONES_MOST] = m->zones[0];
+}
+
+/* How many records are others than those of the single books, and how many bytes. */
+static void print_many(const char *what, uprzezar_zoned a, const many *m) {
+    uint64_t records = 0;
+    uint64_t bytes = 0;
+    size_t at = 0;
+    size_t i;
+    for (i = 0; i < UPRZEZAR_ZONES_MOST; i++) {
+        uprzezar_book b = m->zones[i];
+        size_t own = uprzezar_shape(b.bound, b.length, b.tolerance).shape.bytes;
+        size_t j;
+        records += memcmp(&b, &m->single[i], sizeof b) != 0;
+        for (j = 0; j < own; j++)
+            bytes += m->rings[at + j] != m->ring[i][j];
+        at += own;
+    }
+    printf("%s: refusal %u, zone %" PRIu64 "; in %zu bytes; other records: %" PRIu64 ", other bytes: %" PRIu64
+           "; the byte behind the stretches: %02x\n",
+           what, a.refusal, a.zone, at, records, bytes, m->rings[at]);
+}
+
+/* The counts of a round; the last is above every bound. */
+static void count_many(many *m, uint64_t round) {
+    size_t i;
+    for (i = 0; i < UPRZEZAR_ZONES_MOST; i++)
+        m->counts[i] = item_at(round * UPRZEZAR_ZONES_MOST + i, i + 1);
+    m->counts[UPRZEZAR_ZONES_MOST] = UINT64_MAX;
+}
+
+/* So many rounds; in every fifth each zone is added to by itself, the last one first. */
+static void many_rounds(many *m, uint64_t rounds) {
+    uprzezar_zoned a = {0, 0};
+    uint64_t refused = 0;
+    uint64_t round;
+    size_t i;
+    for (round = 0; round < rounds; round++) {
+        count_many(m, round);
+        if (round % 5 < 4) {
+            a = uprzezar_zones_add(m->zones, UPRZEZAR_ZONES_MOST, m->rings, m->bytes + 1, m->counts, UPRZEZAR_ZONES_MOST);
+            refused += a.refusal != 0;
+        }
+        for (i = UPRZEZAR_ZONES_MOST; i-- > 0;) {
+            if (round % 5 == 4) {
+                a = uprzezar_zone_add(m->zones, UPRZEZAR_ZONES_MOST, m->rings, m->bytes, i, m->counts[i]);
+                refused += a.refusal != 0;
+            }
+            m->single[i] = uprzezar_add(m->single[i], m->ring[i], 32, m->counts[i]).book;
+        }
+    }
+    printf("96 zones, %" PRIu64 " rounds: %" PRIu64 " calls refused\n", rounds, refused);
+    print_many("after them", a, m);
+}
+
+static void many_zones(void) {
+    many m;
+    uprzezar_zoned a;
+    open_many(&m);
+    count_many(&m, 0);
+    print_many("no zones", uprzezar_zones_add(m.zones, 0, m.rings, m.bytes, m.counts, 0), &m);
+    many_rounds(&m, 200);
+    a = uprzezar_zones_add(m.zones, UPRZEZAR_ZONES_MOST + 1, m.rings, sizeof m.rings, m.counts, UPRZEZAR_ZONES_MOST + 1);
+    print_many("97 zones", a, &m);
+    a = uprzezar_zone_add(m.zones, UPRZEZAR_ZONES_MOST + 1, m.rings, sizeof m.rings, 0, 1);
+    print_many("one of 97 zones", a, &m);
+    a = uprzezar_zones_add(m.zones, UPRZEZAR_ZONES_MOST, m.rings, m.bytes, m.counts, UPRZEZAR_ZONES_MOST + 1);
+    print_many("97 counts", a, &m);
+    m.counts[UPRZEZAR_ZONES_MOST - 1] = UPRZEZAR_ZONES_MOST + 1;
+    a = uprzezar_zones_add(m.zones, UPRZEZAR_ZONES_MOST, m.rings, m.bytes - 1, m.counts, UPRZEZAR_ZONES_MOST);
+    print_many("a byte too few", a, &m);
+    a = uprzezar_zones_add(m.zones, UPRZEZAR_ZONES_MOST, m.rings, m.bytes, m.counts, UPRZEZAR_ZONES_MOST);
+    print_many("the last count above its bound", a, &m);
+}
+
+static void zones(void) {
+    all_of_two_zones();
+    each_of_two_zones();
+    many_zones();
+}
+
 static void image(const uint8_t *bytes, size_t count) {
     uprzezar_numbers n = uprzezar_header(bytes, count);
     printf("image: refusal %u, %zu x %zu, maxval %zu, raster from %zu, used %zu\n", n.refusal, n.width, n.height, n.maxval, n.start,
@@ -598,6 +797,7 @@ int main(void) {
     trends();
     rows();
     coarser();
+    zones();
     pictures();
     two_bytes();
     comments();

@@ -3,7 +3,7 @@
 use crate::chance::Chance;
 use crate::pictures::{Kind, ONE_BYTE, TWO_BYTES};
 use crate::plain::book::{Book, Shape};
-use crate::plain::{image, score, Refusal};
+use crate::plain::{image, score, zones, Refusal};
 use crate::proved;
 use std::hint::black_box;
 
@@ -284,6 +284,99 @@ fn coarsen_cases(cases: &mut Vec<Case>, setting: &str, bound: u64, length: u64, 
     }
 }
 
+/// Zones of one setting with their rings, and a count for each; the records are of either side.
+#[derive(Clone)]
+struct Zones<B> {
+    books: Vec<B>,
+    rings: Vec<u8>,
+    counts: Vec<u64>,
+}
+
+impl Zones<Book> {
+    /// So many, each one item short of a full block.
+    fn new(many: usize, bound: u64, length: u64, tolerance: u64) -> Zones<Book> {
+        let Filled { book, ring, .. } = Filled::by_a_third(bound, length, tolerance);
+        let bytes = Shape::of(bound, length, tolerance).expect("a good setting").bytes();
+        let counts = (0..many as u64).map(|zone| zone * 7919 % (bound + 1)).collect();
+        Zones { books: vec![book; many], rings: ring[..bytes].repeat(many), counts }
+    }
+
+    /// Each zone takes so many items that it is one item further in its block than the zone before it.
+    fn apart(mut self) -> Zones<Book> {
+        for zone in 0..self.books.len() {
+            let book = self.books[zone];
+            let block = (book.tolerance / book.bound).max(1);
+            for _ in 0..zone as u64 % block {
+                zones::add_one(&mut self.books, &mut self.rings, zone as u64, book.bound / 2).expect("an item within the bound");
+            }
+        }
+        self
+    }
+
+    fn crossed(&self) -> Zones<proved::Book> {
+        let Zones { books, rings, counts } = self.clone();
+        Zones { books: books.into_iter().map(crossed).collect(), rings, counts }
+    }
+}
+
+impl<B: Copy + 'static> Zones<B> {
+    /// Round after round, each with the records that the last one left.
+    fn rounds<T>(mut self, add: impl Fn(&mut [B], &mut [u8], &[u64]) -> T + 'static) -> Repeated {
+        repeated(move || add(&mut self.books, &mut self.rings, black_box(&self.counts)))
+    }
+
+    /// The first round again and again: the records are put back before each.
+    fn first_round<T>(mut self, add: impl Fn(&mut [B], &mut [u8], &[u64]) -> T + 'static) -> Repeated {
+        let first = self.books.clone();
+        repeated(move || {
+            self.books.copy_from_slice(&first);
+            add(&mut self.books, &mut self.rings, black_box(&self.counts))
+        })
+    }
+
+    /// Rounds over all zones, and one over some of them, until so many zones had a count.
+    fn zone_by_zone<T>(mut self, add: impl Fn(&mut [B], &mut [u8], &[u64]) -> T + 'static) -> Repeated {
+        Box::new(move |times| {
+            let mut left = times as usize;
+            while left > 0 {
+                let now = left.min(self.books.len());
+                black_box(add(&mut self.books[..now], &mut self.rings, black_box(&self.counts[..now])));
+                left -= now;
+            }
+        })
+    }
+}
+
+/// Zones that begin together close their blocks together. Those of which the cost of one is told do so by turns.
+fn zone_cases(cases: &mut Vec<Case>, setting: &str, bound: u64, length: u64, tolerance: u64) {
+    for (many, which) in [(1, "the only zone"), (2, "each of 2 zones"), (96, "each of 96 zones")] {
+        let lent = Zones::new(many, bound, length, tolerance);
+        cases.push(Case {
+            name: format!("add to {which}, {setting}"),
+            plain: lent.clone().rounds(zones::add_all),
+            proved: lent.crossed().rounds(proved::zones_add),
+        });
+    }
+    let lent = Zones::new(96, bound, length, tolerance);
+    cases.push(Case {
+        name: format!("add to each of 96 zones that closes all their blocks, {setting}"),
+        plain: lent.clone().first_round(zones::add_all),
+        proved: lent.crossed().first_round(proved::zones_add),
+    });
+    let apart = lent.clone().apart();
+    cases.push(Case {
+        name: format!("add to each of 96 zones, per zone, {setting}"),
+        plain: apart.clone().zone_by_zone(zones::add_all),
+        proved: apart.crossed().zone_by_zone(proved::zones_add),
+    });
+    let item = bound / 2 + 1;
+    cases.push(Case {
+        name: format!("add to zone 50 of 96, {setting}"),
+        plain: lent.clone().rounds(move |books, rings, _| zones::add_one(books, rings, black_box(50), black_box(item))),
+        proved: lent.crossed().rounds(move |books, rings, _| proved::zone_add(books, rings, black_box(50), black_box(item))),
+    });
+}
+
 fn header_case(cases: &mut Vec<Case>, what: &str, image: Vec<u8>) {
     let (a, b) = (image.clone(), image);
     cases.push(Case {
@@ -341,6 +434,8 @@ pub fn all() -> Vec<Case> {
             coarsen_cases(&mut cases, setting, bound, length, tolerance);
         }
     }
+    let (setting, bound, length, tolerance) = SETTINGS[0];
+    zone_cases(&mut cases, setting, bound, length, tolerance);
     picture_cases(&mut cases);
     cases
 }

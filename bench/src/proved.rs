@@ -72,6 +72,13 @@ pub struct Coarser {
 
 #[derive(Clone, Copy, Debug, PartialEq, Eq)]
 #[repr(C)]
+pub struct Zoned {
+    pub refusal: u8,
+    pub zone: u64,
+}
+
+#[derive(Clone, Copy, Debug, PartialEq, Eq)]
+#[repr(C)]
 pub struct Trended {
     pub refusal: u8,
     pub trend: i64,
@@ -151,6 +158,15 @@ extern "C" {
         row: *mut u32,
         entries: usize,
     ) -> Coarser;
+    fn uprzezar_zones_add(
+        zones: *mut Book,
+        zone_count: usize,
+        rings: *mut u8,
+        bytes: usize,
+        counts: *const u64,
+        how_many: usize,
+    ) -> Zoned;
+    fn uprzezar_zone_add(zones: *mut Book, zone_count: usize, rings: *mut u8, bytes: usize, zone: u64, item: u64) -> Zoned;
     fn uprzezar_header(bytes: *const u8, count: usize) -> Numbers;
     fn uprzezar_raster(bytes: *const u8, count: usize) -> RasterPlace;
     fn uprzezar_score(bound: u64, allowance: u8, first: *const u8, ones: usize, second: *const u8, twos: usize) -> Answer;
@@ -250,6 +266,15 @@ pub fn coarsen_row(book: Book, ring: &[u8], times: u64, second: &mut [u8], row: 
     unsafe {
         uprzezar_coarsen_row(book, ring.as_ptr(), bytes, times, second.as_mut_ptr(), seconds, row.as_mut_ptr(), entries)
     }
+}
+
+pub fn zones_add(zones: &mut [Book], rings: &mut [u8], counts: &[u64]) -> Zoned {
+    let (zone_count, bytes) = (zones.len(), rings.len());
+    unsafe { uprzezar_zones_add(zones.as_mut_ptr(), zone_count, rings.as_mut_ptr(), bytes, counts.as_ptr(), counts.len()) }
+}
+
+pub fn zone_add(zones: &mut [Book], rings: &mut [u8], zone: u64, item: u64) -> Zoned {
+    unsafe { uprzezar_zone_add(zones.as_mut_ptr(), zones.len(), rings.as_mut_ptr(), rings.len(), zone, item) }
 }
 
 pub fn header(bytes: &[u8]) -> Numbers {

@@ -8,13 +8,14 @@ use bench::pictures::{pixel_bytes, put_pixel};
 use bench::plain::book::{Book, Notice, Shape};
 use bench::plain::coarse::Coarser;
 use bench::plain::sums::Summed;
+use bench::plain::zones::{self, ZoneRefused};
 use bench::plain::{image, ring, score, Refusal};
 use bench::proved;
 
 /// How many calls of a kind came out with which refusal; 0 for none.
 struct Tally {
     name: &'static str,
-    counts: [u64; 20],
+    counts: [u64; 21],
 }
 
 fn alike<T: PartialEq + std::fmt::Debug>(name: &str, side: &str, other: T, proved: T, call: impl Fn() -> String) {
@@ -552,6 +553,115 @@ fn coarsen_calls(chance: &mut Chance, t: &mut [Tally]) {
     same(&mut t[1], p.refusal, (p, a, row_a), (q, b, row_b), call);
 }
 
+/// A zone from a good start and awake, with its stretch.
+fn zone(chance: &mut Chance) -> (Book, Vec<u8>) {
+    loop {
+        let (bound, length, tolerance) = setting(chance);
+        let mut ring = chance.bytes(ring_bytes(bound, length, tolerance));
+        if let Ok(mut book) = Book::open(bound, length, tolerance, &mut ring) {
+            for _ in 0..chance.below(2 * length.min(20) + 1) {
+                book.add(&mut ring, chance.below(bound + 1)).expect("the item is within the bound");
+            }
+            return (book, ring);
+        }
+    }
+}
+
+/// Zones with their rings, a count for each, and the number of one with an item.
+struct Zoned {
+    zones: Vec<Book>,
+    rings: Vec<u8>,
+    counts: Vec<u64>,
+    zone: u64,
+    item: u64,
+}
+
+/// Few zones for the most part, and at times about as many as there may be.
+fn how_many_zones(chance: &mut Chance) -> u64 {
+    match chance.below(64) {
+        0 => 95 + chance.below(4),
+        1 => chance.below(97),
+        2 => 0,
+        _ => 1 + chance.below(4),
+    }
+}
+
+/// Good zones and counts within their bounds, and then one trouble or two by chance: a record at the edges of refusal 8, a resting mark, a
+/// count beside the bound; a ring slice that is short, and counts that are more or fewer than the zones.
+fn zoned(chance: &mut Chance) -> Zoned {
+    let many = how_many_zones(chance);
+    let (mut zones, stretches): (Vec<Book>, Vec<Vec<u8>>) = (0..many).map(|_| zone(chance)).unzip();
+    let mut counts: Vec<u64> = zones.iter().map(|book| chance.below(book.bound + 1)).collect();
+    for _ in 0..2.min(many) {
+        let at = chance.below(many) as usize;
+        let Book { bound, length, tolerance, .. } = zones[at];
+        match chance.below(8) {
+            0 => zones[at] = made_up(chance, bound, length, tolerance),
+            1 if chance.one_in(2) => zones[at] = state(chance).0,
+            2 => zones[at].resting = 1 + chance.below(2) * chance.below(u64::MAX),
+            3 => counts[at] = near(chance, bound),
+            _ => {}
+        }
+    }
+    let bytes = zones.iter().map(|book| ring_bytes(book.bound, book.length, book.tolerance)).sum();
+    let mut rings = lent(chance, bytes);
+    rings.iter_mut().zip(stretches.concat()).for_each(|(byte, own)| *byte = own);
+    match chance.below(32) {
+        0 => counts.push(0),
+        1 => drop(counts.pop()),
+        2 => counts.clear(),
+        _ => {}
+    }
+    let zone = if chance.one_in(8) { near(chance, many) } else { chance.below(many.max(1)) };
+    let bound = zones.get(zone as usize).map_or(9, |book| book.bound);
+    let item = if chance.one_in(4) { near(chance, bound) } else { chance.below(bound.saturating_add(1)) };
+    Zoned { zones, rings, counts, zone, item }
+}
+
+fn all_crossed(zones: &[Book]) -> Vec<proved::Book> {
+    zones.iter().copied().map(crossed).collect()
+}
+
+fn of_zones(result: Result<(), ZoneRefused>) -> proved::Zoned {
+    match result {
+        Ok(()) => proved::Zoned { refusal: 0, zone: 0 },
+        Err(ZoneRefused { refusal, zone }) => proved::Zoned { refusal: refusal as u8, zone },
+    }
+}
+
+/// Each zone by itself, the last one first, by the library's own book on its own stretch.
+fn last_zone_first(records: &mut [proved::Book], rings: &mut [u8], counts: &[u64]) {
+    let bytes = |book: &proved::Book| proved::shape(book.bound, book.length, book.tolerance).shape.bytes as usize;
+    let mut end = records.iter().map(bytes).sum();
+    for (book, &count) in records.iter_mut().zip(counts).rev() {
+        let start = end - bytes(book);
+        let added = proved::add(*book, &mut rings[start..end], count);
+        assert!(added.refusal == 0, "a zone refuses what all zones took");
+        (*book, end) = (added.book, start);
+    }
+}
+
+fn zone_calls(chance: &mut Chance, t: &mut [Tally]) {
+    let Zoned { zones, rings, counts, zone, item } = zoned(chance);
+    let call = || format!("{zones:?}, counts {counts:?}, zone {zone}, item {item}, rings {rings:02x?}");
+
+    let (mut a, mut rings_a) = (zones.clone(), rings.clone());
+    let [(mut b, mut rings_b), (mut c, mut rings_c)] = [(); 2].map(|()| (all_crossed(&zones), rings.clone()));
+    let p = of_zones(zones::add_all(&mut a, &mut rings_a, &counts));
+    let q = proved::zones_add(&mut b, &mut rings_b, &counts);
+    if q.refusal == 0 {
+        last_zone_first(&mut c, &mut rings_c, &counts);
+    }
+    alike(t[0].name, "the last zone first", (&c, &rings_c), (&b, &rings_b), call);
+    same(&mut t[0], p.refusal, (p, all_crossed(&a), rings_a), (q, b, rings_b), call);
+
+    let (mut a, mut rings_a) = (zones.clone(), rings.clone());
+    let (mut b, mut rings_b) = (all_crossed(&zones), rings.clone());
+    let p = of_zones(zones::add_one(&mut a, &mut rings_a, zone, item));
+    let q = proved::zone_add(&mut b, &mut rings_b, zone, item);
+    same(&mut t[1], p.refusal, (p, all_crossed(&a), rings_a), (q, b, rings_b), call);
+}
+
 fn whites(chance: &mut Chance, into: &mut Vec<u8>) {
     for _ in 0..1 + chance.below(3) * chance.below(2) {
         into.push(chance.pick(b" \t\r\n"));
@@ -742,9 +852,9 @@ fn main() {
     let names = [
         "ring_clear", "ring_read", "ring_write", "ring_sum", "shape", "open", "add", "total", "far", "verdict", "rest", "wake", "run",
         "header", "raster", "score", "masked", "open_row", "add_row", "total_row", "run_row",
-        "trend", "coarsen", "coarsen_row",
+        "trend", "coarsen", "coarsen_row", "zones_add", "zone_add",
     ];
-    let mut tallies = names.map(|name| Tally { name, counts: [0; 20] });
+    let mut tallies = names.map(|name| Tally { name, counts: [0; 21] });
     let mut chance = Chance::new(2026);
     for _ in 0..rounds {
         slots_call(&mut chance, &mut tallies[0..4]);
@@ -758,6 +868,7 @@ fn main() {
         run_row_call(&mut chance, &mut tallies[20]);
         trend_call(&mut chance, &mut tallies[21]);
         coarsen_calls(&mut chance, &mut tallies[22..24]);
+        zone_calls(&mut chance, &mut tallies[24..26]);
     }
     one_bit_sums(&mut chance, &mut tallies[3]);
     let calls: u64 = tallies.iter().flat_map(|tally| tally.counts).sum();

@@ -61,7 +61,7 @@ impl Shape {
         Ok(Shape::new(bound, length, tolerance))
     }
 
-    fn new(bound: u64, length: u64, tolerance: u64) -> Shape {
+    pub(super) fn new(bound: u64, length: u64, tolerance: u64) -> Shape {
         let block = (tolerance / bound).max(1);
         let largest = (block * bound).div_ceil(tolerance);
         Shape {
@@ -101,7 +101,7 @@ impl Book {
     }
 
     /// Whether the record alone can be a book's; the mark has no part in that.
-    fn check_record(&self) -> Result<Shape, Refusal> {
+    pub(super) fn check_record(&self) -> Result<Shape, Refusal> {
         check_numbers(self.bound, self.length, self.tolerance).map_err(|_| Refusal::NoBook)?;
         let shape = Shape::new(self.bound, self.length, self.tolerance);
         let sound = self.kept <= self.length

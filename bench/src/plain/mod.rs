@@ -8,6 +8,7 @@ pub mod ring;
 pub mod score;
 pub mod sums;
 pub mod trend;
+pub mod zones;
 
 /// Why a call was refused; the numbers are those of docs/SCOPE.md, Refusals.
 #[derive(Clone, Copy, Debug, PartialEq, Eq)]
@@ -32,4 +33,5 @@ pub enum Refusal {
     BookRests = 17,
     RowTooShort = 18,
     CannotCoarsen = 19,
+    BadZones = 20,
 }

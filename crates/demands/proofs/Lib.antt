@@ -23,3 +23,4 @@ pub mod RowCallsKeepGood
 pub mod CoarserKeepsGood
 pub mod CoarserFollows
 pub mod CoarserBehind
+pub mod ZonesKeepGood

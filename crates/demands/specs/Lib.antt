@@ -7,3 +7,4 @@ pub mod RunFromOpening
 pub mod HistoryWithRow
 pub mod DemandsWithRow
 pub mod CoarserBooks
+pub mod GoodZones

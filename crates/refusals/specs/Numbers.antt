@@ -77,6 +77,10 @@ rowTooShort = 18
 abbrev pub cannotCoarsen : ℕ
 cannotCoarsen = 19
 
--- 23: a buffer for a line has fewer than 96 bytes (20 to 22 are kept for requests)
+-- 20: no zones or more than 96, a zone number not below their count, or counts and records that differ in number
+abbrev pub badZones : ℕ
+badZones = 20
+
+-- 23: a buffer for a line has fewer than 96 bytes (21 and 22 are kept for requests)
 abbrev pub bufferTooShort : ℕ
 bufferTooShort = 23

@@ -38,5 +38,7 @@ pub const ROW_TOO_SHORT: u8 = 18;
 
 pub const CANNOT_COARSEN: u8 = 19;
 
-// 23: a buffer for a line has fewer than 96 bytes (20 to 22 are kept for requests).
+pub const BAD_ZONES: u8 = 20;
+
+// 23: a buffer for a line has fewer than 96 bytes (21 and 22 are kept for requests).
 pub const BUFFER_TOO_SHORT: u8 = 23;

@@ -1,4 +1,4 @@
-// The public calls of ring, book, sums, trend, coarse, image and score for programs in C: the archive of `rt staticlib uprzezar`, the header
+// The public calls of ring, book, sums, trend, coarse, zones, image and score for programs in C: the archive of `rt staticlib uprzezar`, the header
 // include/uprzezar.h. Not among them are book::two_totals, image::mask_header and image::pair_value. Each function hands its arguments on and
 // promises what the call behind it promises; a verdict crosses as numbers, and a raster as its place.
 mod crossing;
@@ -8,6 +8,7 @@ mod of_images;
 mod of_ring;
 mod of_sums;
 mod of_trend;
+mod of_zones;
 
 // What the page is told, as numbers: the refusal, 0 for none; the verdict, 1 live, 2 frozen, 3 undecided, 4 resting; the window; the figure.
 // At a refusal all but the refusal are 0.

@@ -7,6 +7,7 @@ use crate::rings;
 use crate::row_books;
 use crate::text;
 use crate::trends;
+use crate::zone_books;
 ghost use Prim.Native.Nat.{_≤_};
 ghost use lib.ListN.{length};
 
@@ -30,6 +31,10 @@ fn of_book(line: &[u8], first: &mut [u8], second: &mut [u8], out: &mut [u8]) -> 
     let of_two_windows = trends::answer(line, first, out);
     if of_two_windows != 0 {
         return of_two_windows;
+    }
+    let of_zones = zone_books::answer(line, first, out);
+    if of_zones != 0 {
+        return of_zones;
     }
     coarser::answer(line, first, second, out)
 }

@@ -5,11 +5,13 @@ mod coarser;
 mod fields;
 mod images;
 mod input;
+mod lent_zones;
 mod reading;
 mod rings;
 mod row_books;
 mod text;
 mod trends;
+mod zone_books;
 
 fn main() {
     // The longest line to be read: a record, a ring of 32,768 bytes, a row of 16,384 numbers of 10 digits and as many counts of 20 digits,

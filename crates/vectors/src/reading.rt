@@ -27,6 +27,13 @@ pub(crate) struct Entry {
     pub book: Book,
 }
 
+// How many records of zones were read, if the text is such that fit; they lie at the array's start.
+pub(crate) struct Entries {
+    pub ok: bool,
+    pub used: usize,
+    pub zones: [Book; 97],
+}
+
 fn bad() -> Parsed {
     Parsed {
         ok: false,
@@ -93,9 +100,8 @@ pub(crate) fn number_or_0(line: &[u8], at: usize) -> Parsed {
     number_in(line, at)
 }
 
-// The record `L,n,D,R,p,kept,head,mark` in the first field.
-pub(crate) fn record_in(line: &[u8]) -> Entry {
-    let text = field(line, 1);
+// The record `L,n,D,R,p,kept,head,mark`.
+fn record(text: &[u8]) -> Entry {
     let l = number(part(text, b',', 0));
     let n = number(part(text, b',', 1));
     let d = number(part(text, b',', 2));
@@ -125,6 +131,11 @@ pub(crate) fn record_in(line: &[u8]) -> Entry {
             resting: mark.value,
         },
     }
+}
+
+// The record in the first field.
+pub(crate) fn record_in(line: &[u8]) -> Entry {
+    record(field(line, 1))
 }
 
 // The value of a hex digit, lower case alone; 16 for any other byte.
@@ -256,4 +267,64 @@ pub(crate) fn sums_in(line: &[u8], at: usize, out: &mut [u32]) -> Size
     }
     let ok = narrow(&numbers[..n], out);
     Size { ok, size: n }
+}
+
+// No records, and whether that is what the text says.
+fn no_records(ok: bool) -> Entries
+    ensures { λ r. ⌜ r .used ≤ 97 ⌝ }
+{
+    let none = Book {
+        bound: 0,
+        length: 0,
+        tolerance: 0,
+        carry: 0,
+        phase: 0,
+        kept: 0,
+        head: 0,
+        resting: 0,
+    };
+    Entries {
+        ok,
+        used: 0,
+        zones: [none; 97],
+    }
+}
+
+// Records joined by semicolons, `-` for none; more than 97 are not taken. Behind a semicolon a record has to come.
+fn records(text: &[u8]) -> Entries
+    ensures { λ r. ⌜ r .used ≤ 97 ⌝ }
+{
+    if is_dash(text) {
+        return no_records(true);
+    }
+    let none = no_records(true);
+    let mut zones = none.zones;
+    let mut used = 0;
+    let mut at = 0;
+    while at <= text.len() {
+        let end = place(text, at, b';');
+        let entry = record(&text[at..end]);
+        if !entry.ok {
+            return no_records(false);
+        }
+        if used >= 97 {
+            return no_records(false);
+        }
+        let b = entry.book;
+        zones[used] = b;
+        used += 1;
+        at = end + 1;
+    }
+    Entries {
+        ok: true,
+        used,
+        zones,
+    }
+}
+
+// The records of zones in the first field.
+pub(crate) fn records_in(line: &[u8]) -> Entries
+    ensures { λ r. ⌜ r .used ≤ 97 ⌝ }
+{
+    records(field(line, 1))
 }

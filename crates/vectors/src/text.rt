@@ -1,6 +1,7 @@
 // Text put into a slice from a place on. Each function gives the place behind what it put. Where the slice ends, nothing more is
 // put; the slice of main is longer than any answer.
 use book::Book;
+ghost use Prim.Native.Nat.{_≤_};
 
 pub(crate) fn byte(out: &mut [u8], at: usize, value: u8) -> usize {
     if at < out.len() {
@@ -85,9 +86,10 @@ pub(crate) fn refusal(out: &mut [u8], number: u8) -> usize {
     decimal(out, 0, number as u64)
 }
 
-// A record behind a space.
-pub(crate) fn record(out: &mut [u8], at: usize, b: Book) -> usize {
-    let one = next(out, at, b.bound);
+// A record behind a byte.
+fn record_behind(out: &mut [u8], at: usize, mark: u8, b: Book) -> usize {
+    let zero = byte(out, at, mark);
+    let one = decimal(out, zero, b.bound);
     let two = listed(out, one, b.length);
     let three = listed(out, two, b.tolerance);
     let four = listed(out, three, b.carry);
@@ -95,6 +97,37 @@ pub(crate) fn record(out: &mut [u8], at: usize, b: Book) -> usize {
     let six = listed(out, five, b.kept);
     let seven = listed(out, six, b.head);
     listed(out, seven, b.resting)
+}
+
+// A record behind a space.
+pub(crate) fn record(out: &mut [u8], at: usize, b: Book) -> usize {
+    record_behind(out, at, b' ', b)
+}
+
+// The records at an array's start but for the first, each behind a semicolon.
+fn other_records(out: &mut [u8], from: usize, zones: [Book; 97], used: usize) -> usize
+    requires { ⌜ used ≤ 97 ⌝ }
+{
+    let mut at = from;
+    let mut i = 1;
+    while i < used {
+        let b = zones[i];
+        at = record_behind(out, at, b';', b);
+        i += 1;
+    }
+    at
+}
+
+// The records at an array's start joined by semicolons behind a space, `-` for none.
+pub(crate) fn records(out: &mut [u8], at: usize, zones: [Book; 97], used: usize) -> usize
+    requires { ⌜ used ≤ 97 ⌝ }
+{
+    if used == 0 {
+        return word(out, at, b" -");
+    }
+    let first = zones[0];
+    let behind = record(out, at, first);
+    other_records(out, behind, zones, used)
 }
 
 // Bytes as hex behind a space, `-` for none.

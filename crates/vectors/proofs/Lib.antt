@@ -1,0 +1,2 @@
+pub mod PartOfAnArray
+pub mod ZonesInAnArray
