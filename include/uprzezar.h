@@ -5,9 +5,9 @@
  * and keeps nothing between calls.
  *
  * What you must keep:
- *   - a pointer and the length behind it name bytes, counts of eight bytes each, a row's entries of four bytes each, or records of zones,
- *     that are yours to read for the whole call (and to write, where the pointer is not const); the pointer is not null, not even where the
- *     length is 0, and is aligned as its type asks;
+ *   - a pointer and the length behind it name bytes, counts of eight bytes each, a row's entries or slot numbers of four bytes each, or
+ *     records of zones, that are yours to read for the whole call (and to write, where the pointer is not const); the pointer is not null,
+ *     not even where the length is 0, and is aligned as its type asks;
  *   - while a call runs, nobody else writes those bytes, and bytes lent for writing overlap no others that are lent to that call.
  *
  * What you may leave to us: everything else. Any number, any record, any ring bytes, any row, any image, any mask and any length get an
@@ -21,10 +21,13 @@
  * record, and the ring as the last call left it, changed by nothing else (no call of the ring alone, no second book in it).
  * So is the book that uprzezar_coarsen or uprzezar_coarsen_row made of such a one without a refusal, with the record that it gave and the
  * second ring.
+ * A book whose ring something else has changed, such as a dip in the supply, is none. Under a condition that no call can check, it is one
+ * again with the record that uprzezar_salvage or uprzezar_salvage_row gave without a refusal and the ring as that call left it: "Salvage"
+ * below says which.
  * A zone's record and stretch are such a book under the same conditions, uprzezar_zones_add and uprzezar_zone_add being among its calls.
  * What is said below of true totals, and of what a window truly holds, holds for such a book, over the items that uprzezar_add,
  * uprzezar_run, uprzezar_add_row, uprzezar_run_row, uprzezar_zones_add and uprzezar_zone_add accepted for it, those from before it was made
- * coarser too.
+ * coarser or salvaged too.
  * Any other record, or ring, still gets the one answer that is laid down for it; only, that answer says nothing of the items.
  * A total by a row asks for more than a good start: "The book with a row" below says what.
  */
@@ -41,27 +44,28 @@ extern "C" {
 /* The refusals. */
 enum {
     UPRZEZAR_NO_REFUSAL = 0,
-    UPRZEZAR_BAD_BOUND = 1,        /* the bound is not 1 to 65,535 */
-    UPRZEZAR_BAD_LENGTH = 2,       /* the length is not 1 to 4,096 */
-    UPRZEZAR_BAD_TOLERANCE = 3,    /* the tolerance is 0, or it, or that of a coarser book, is above length times bound */
-    UPRZEZAR_RING_TOO_SHORT = 4,   /* the ring, the second ring, or the rings of all zones, have too few bytes */
-    UPRZEZAR_WINDOW_TOO_LONG = 5,  /* the window, or twice the window of a trend, is longer than what is kept */
-    UPRZEZAR_ZERO_ASKED = 6,       /* the amount is 0, or the window of a verdict is */
-    UPRZEZAR_ITEM_TOO_LARGE = 7,   /* the item, or a count of a run or of a zone, is above the bound */
-    UPRZEZAR_NO_BOOK = 8,          /* the record is none that a book can have */
-    UPRZEZAR_NOT_REACHED = 9,      /* no window that is kept reaches the amount */
-    UPRZEZAR_RING_CALL = 10,       /* the ring's own calls: the width is not 1 to 16, the slots are not 1 to 4,096, there is no such slot,
-                                      more slots are to be summed than the ring has, or a value takes more bits than the width */
-    UPRZEZAR_WRONG_BYTE = 11,      /* a wrong byte in the header of an image or a mask, or a number without digits */
-    UPRZEZAR_BAD_NUMBER = 12,      /* width or height is not 1 to 1,024, or maxval not 1 to 65,535 */
-    UPRZEZAR_IMAGE_TOO_LARGE = 13, /* the image or the mask takes more than 24,576 bytes */
-    UPRZEZAR_ENDS_TOO_EARLY = 14,  /* the image or the mask goes on behind the bytes lent */
-    UPRZEZAR_PIXEL_TOO_LARGE = 15, /* a pixel is above maxval */
-    UPRZEZAR_IMAGES_DIFFER = 16,   /* the two images differ in width, height or maxval, or the mask has another width or height */
-    UPRZEZAR_BOOK_RESTS = 17,      /* the book rests, and takes no items */
-    UPRZEZAR_ROW_TOO_SHORT = 18,   /* the row has fewer entries than the ring has groups of 32 slots, a last part of a group counted too */
-    UPRZEZAR_CANNOT_COARSEN = 19,  /* the tolerance is no multiple of the bound, or is to be taken fewer than 2 or more than 16 times */
-    UPRZEZAR_BAD_ZONES = 20        /* there are no zones or more than 96, no zone has that number, or there are not as many counts */
+    UPRZEZAR_BAD_BOUND = 1,         /* the bound is not 1 to 65,535 */
+    UPRZEZAR_BAD_LENGTH = 2,        /* the length is not 1 to 4,096 */
+    UPRZEZAR_BAD_TOLERANCE = 3,     /* the tolerance is 0, or it, or that of a coarser book, is above length times bound */
+    UPRZEZAR_RING_TOO_SHORT = 4,    /* the ring, the second ring, or the rings of all zones, have too few bytes */
+    UPRZEZAR_WINDOW_TOO_LONG = 5,   /* the window, or twice the window of a trend, is longer than what is kept */
+    UPRZEZAR_ZERO_ASKED = 6,        /* the amount is 0, or the window of a verdict is */
+    UPRZEZAR_ITEM_TOO_LARGE = 7,    /* the item, or a count of a run or of a zone, is above the bound */
+    UPRZEZAR_NO_BOOK = 8,           /* the record is none that a book can have */
+    UPRZEZAR_NOT_REACHED = 9,       /* no window that is kept reaches the amount */
+    UPRZEZAR_RING_CALL = 10,        /* the ring's own calls: the width is not 1 to 16, the slots are not 1 to 4,096, there is no such slot,
+                                       more slots are to be summed than the ring has, or a value takes more bits than the width */
+    UPRZEZAR_WRONG_BYTE = 11,       /* a wrong byte in the header of an image or a mask, or a number without digits */
+    UPRZEZAR_BAD_NUMBER = 12,       /* width or height is not 1 to 1,024, or maxval not 1 to 65,535 */
+    UPRZEZAR_IMAGE_TOO_LARGE = 13,  /* the image or the mask takes more than 24,576 bytes */
+    UPRZEZAR_ENDS_TOO_EARLY = 14,   /* the image or the mask goes on behind the bytes lent */
+    UPRZEZAR_PIXEL_TOO_LARGE = 15,  /* a pixel is above maxval */
+    UPRZEZAR_IMAGES_DIFFER = 16,    /* the two images differ in width, height or maxval, or the mask has another width or height */
+    UPRZEZAR_BOOK_RESTS = 17,       /* the book rests, and takes no items */
+    UPRZEZAR_ROW_TOO_SHORT = 18,    /* the row has fewer entries than the ring has groups of 32 slots, a last part of a group counted too */
+    UPRZEZAR_CANNOT_COARSEN = 19,   /* the tolerance is no multiple of the bound, or is to be taken fewer than 2 or more than 16 times */
+    UPRZEZAR_BAD_ZONES = 20,        /* there are no zones or more than 96, no zone has that number, or there are not as many counts */
+    UPRZEZAR_NUMBERS_TOO_SHORT = 21 /* there are fewer entries for the numbers of altered slots than the ring has slots */
 };
 
 /* The verdicts. What they say of the window is for a book from a good start: the latest record, and a ring changed by nothing else. */
@@ -97,8 +101,9 @@ typedef struct {
     uint64_t kept;
     uint64_t head;
     uint64_t resting; /* 0: awake; anything else: the book rests. uprzezar_open and uprzezar_wake set 0, uprzezar_rest sets 1, and
-                         uprzezar_add, uprzezar_run and uprzezar_coarsen hand it back as it came; whatever it is, it is no ground for
-                         refusal 8. Set it by these calls: a book whose record was changed by hand is not one from a good start */
+                         uprzezar_add, uprzezar_run, uprzezar_coarsen and uprzezar_salvage hand it back as it came; whatever it is, it is
+                         no ground for refusal 8. Set it by these calls: a book whose record was changed by hand is not one from a good
+                         start */
 } uprzezar_book;
 
 typedef struct {
@@ -119,6 +124,13 @@ typedef struct {
     uint64_t bytes;
     uprzezar_book book;
 } uprzezar_coarser;
+
+/* A salvaged book: how many slots were altered, 0 at a refusal, and the record to go on with. */
+typedef struct {
+    uint8_t refusal;
+    uint64_t count;
+    uprzezar_book book;
+} uprzezar_salvaged;
 
 /* With refusals 8, 17 and 7 `zone` is the number, from 0, of the zone that the refusal is for; otherwise it is 0. */
 typedef struct {
@@ -204,6 +216,8 @@ UPRZEZAR_ASSERT(sizeof(uprzezar_ran) == 80 && offsetof(uprzezar_ran, place) == 8
 UPRZEZAR_ASSERT(offsetof(uprzezar_ran, book) == 16, "ran");
 UPRZEZAR_ASSERT(sizeof(uprzezar_coarser) == 80 && offsetof(uprzezar_coarser, bytes) == 8, "coarser");
 UPRZEZAR_ASSERT(offsetof(uprzezar_coarser, book) == 16, "coarser");
+UPRZEZAR_ASSERT(sizeof(uprzezar_salvaged) == 80 && offsetof(uprzezar_salvaged, count) == 8, "salvaged");
+UPRZEZAR_ASSERT(offsetof(uprzezar_salvaged, book) == 16, "salvaged");
 UPRZEZAR_ASSERT(sizeof(uprzezar_zoned) == 16 && offsetof(uprzezar_zoned, zone) == 8, "zoned");
 UPRZEZAR_ASSERT(sizeof(uprzezar_figure) == 16 && offsetof(uprzezar_figure, figure) == 8, "figure");
 UPRZEZAR_ASSERT(sizeof(uprzezar_summed) == 32 && offsetof(uprzezar_summed, figure) == 8, "summed");
@@ -221,6 +235,9 @@ UPRZEZAR_ASSERT(offsetof(uprzezar_raster_place, length) == 16, "raster place");
 
 /* No book's ring takes more bytes. */
 #define UPRZEZAR_RING_MOST 8192
+
+/* No book has more slots. */
+#define UPRZEZAR_SLOTS_MOST 4096
 
 /* No book's row takes more entries. */
 #define UPRZEZAR_ROW_MOST 128
@@ -285,12 +302,13 @@ uprzezar_trended uprzezar_trend(uprzezar_book book, const uint8_t *ring, size_t 
    slot 0 and all slots up to this one hold together. Lend (slots + 31) / 32 entries, with the slots that uprzezar_shape tells, or
    UPRZEZAR_ROW_MOST, which are enough for every book; entries behind those that a book uses are never touched.
 
-   A row is KEPT beside its book if uprzezar_open_row opened the two, or uprzezar_coarsen_row made them (below); if each call with a row
-   since was lent the row just as the call with a row before it had left it, changed by nothing else; and if every item since was taken by
-   uprzezar_add_row or uprzezar_run_row (where uprzezar_add, uprzezar_run or a call for zones took one, a sum may be missing, and nothing
-   tells you so). Then, for a book from a good start, the figure of uprzezar_total_row is that of uprzezar_total, whatever the window, and
-   all that is said of the one holds of the other. For a row that holds other numbers, a written rule (docs/SCOPE.md, Running sums) still
-   fixes the answer; only, that answer says nothing of the items, and may be above their total.
+   A row is KEPT beside its book if uprzezar_open_row opened the two, or uprzezar_coarsen_row made them (below), or uprzezar_salvage_row
+   rebuilt the row (below); if each call with a row since was lent the row just as the call with a row before it had left it, changed by
+   nothing else; if every item since was taken by uprzezar_add_row or uprzezar_run_row (where uprzezar_add, uprzezar_run or a call for zones
+   took one, a sum may be missing, and nothing tells you so); and if uprzezar_salvage, which rebuilds no row, was not called since. Then, for
+   a book from a good start, the figure of uprzezar_total_row is that of uprzezar_total, whatever the window, and all that is said of the one
+   holds of the other. For a row that holds other numbers, a written rule (docs/SCOPE.md, Running sums) still fixes the answer; only, that
+   answer says nothing of the items, and may be above their total.
 
    How far back, the verdict, the trend, resting and waking have no call with a row: ask with record and ring as before. A row that was kept
    stays so. */
@@ -342,6 +360,39 @@ uprzezar_coarser uprzezar_coarsen(uprzezar_book book, const uint8_t *ring, size_
    the second ring, 18. */
 uprzezar_coarser uprzezar_coarsen_row(uprzezar_book book, const uint8_t *ring, size_t ring_bytes, uint64_t times, uint8_t *second,
                                       size_t second_bytes, uint32_t *row, size_t row_entries);
+
+/* Salvage.
+
+   A dip in the supply may scramble bytes of a ring. Salvage goes through one ring: a slot that holds more than `largest` (uprzezar_shape),
+   which no block can leave there, is ALTERED and holds `largest` then; every other slot stays; the bits after the last slot, up to the end of
+   the last byte that the ring takes, become 0; and bytes behind that one stay. `count` tells how many slots were altered. Their numbers stand
+   in the first `count` entries of `numbers`, in order from slot `head`, the oldest, round to the newest, the one before it; the other entries
+   are left alone. Lend an entry for each slot (uprzezar_shape tells `slots`), or UPRZEZAR_SLOTS_MOST, which are enough for every book.
+
+   The record comes back with a `kept` that reaches as far as the items newer than the newest altered slot: where that slot is the u-th newest,
+   the smaller of `kept` and phase + (u - 1) * block. Where no slot was altered `kept` stays. Nothing else of the record changes; the mark
+   stays too, and a book at rest is salvaged like any other. Go on with the record that comes back. A second call alters nothing.
+
+   WHAT CANNOT BE SEEN: a slot that was scrambled and holds no more than `largest` stays as it is, and nothing tells you so. Where `largest` is
+   all that the bits of a slot can write, no slot is ever altered. So it is wherever the tolerance is at least the bound: `largest` is 1 then,
+   and a slot has one bit. A `count` of 0 does not say that the ring is sound.
+
+   Salvaged without a refusal, a book is a book from a good start, with the items that it had, IF all that was left is true: there is a book
+   from a good start with the very record that went in, and of the ceil((kept - phase) / block) newest slots, with the `kept` of that record,
+   each one that was not altered holds what it holds in that book's ring. What the altered slots and all other ones held does not matter. No
+   call can check this. Where it is so, what is said of true totals holds for every window that is kept then, and later. Where the ring is that
+   of a book from a good start, changed by nothing else, no slot is altered and the record comes back as it was. */
+
+/* Salvages a ring. Ring and numbers do not overlap. Refusals: 8, 4, 21. */
+uprzezar_salvaged uprzezar_salvage(uprzezar_book book, uint8_t *ring, size_t ring_bytes, uint32_t *numbers, size_t number_entries);
+
+/* The same, and rebuilds the row: each entry that the book uses becomes the sum of the slots, as they are then, from slot 0 to the end of its
+   group, whatever the row held and wherever `head` stands, also where no slot was altered; entries behind those are left alone. The row is
+   KEPT beside the book from then on, whether it was before or not. Also of a book that is not from a good start, the figure of
+   uprzezar_total_row is that of uprzezar_total then, and after further items that are taken one after the other with the row. Ring, numbers
+   and row do not overlap. Refusals: 8, 4, 21, 18. */
+uprzezar_salvaged uprzezar_salvage_row(uprzezar_book book, uint8_t *ring, size_t ring_bytes, uint32_t *numbers, size_t number_entries,
+                                       uint32_t *row, size_t row_entries);
 
 /* Zones: a book for each part of the picture.
 

@@ -1,15 +1,16 @@
 """A line of the vectors' format and its answer: what a call's arguments are read from, and how what it gives is written.
 
-Every call of model.py, row_model.py, coarse_model.py and zone_model.py has its name here, and what it takes.
+Every call of model.py, row_model.py, coarse_model.py, zone_model.py and salvage_model.py has its name here, and what it takes.
 """
 
 import coarse_model
 import model
 import row_model
+import salvage_model
 import zone_model
 
 MOST_BYTES = 32768
-# In a row, be it one of counts or one of sums.
+# In a row, be it one of counts, one of sums or one of slot numbers.
 MOST_NUMBERS = 16384
 # One more than a call takes.
 MOST_RECORDS = zone_model.MOST_ZONES + 1
@@ -76,7 +77,7 @@ def take_counts(text):
 
 
 def take_sums(text):
-    """As counts, but each of 32 bits: no refusal is for a larger one, so the line cannot be read."""
+    """As counts, but each of 32 bits, as slot numbers are too: no refusal is for a larger one, so the line cannot be read."""
     sums = take_counts(text)
     if any(value >= 2**32 for value in sums):
         raise Unreadable
@@ -120,6 +121,8 @@ CALLS = {
     "coarsen_row": (coarse_model.coarsen_row, (R, Y, N, Y, S)),
     "zones_add": (zone_model.add_all, (Z, Y, C)),
     "zone_add": (zone_model.add_one, (Z, Y, N, N)),
+    "salvage": (salvage_model.salvage, (R, Y, S)),
+    "salvage_row": (salvage_model.salvage_row, (R, Y, S, S)),
     "pgm": (model.pgm, (Y,)),
     "score": (model.score, (N, A, Y, Y)),
     "score_mask": (model.score_mask, (N, A, Y, Y, Y)),

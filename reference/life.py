@@ -3,6 +3,7 @@
 import coarse_model
 import model
 import row_model
+import salvage_model
 from calls import call
 
 
@@ -38,6 +39,14 @@ class Life:
         if not refusal:
             self.record, self.ring = record, second
 
+    def brown_out(self, ring):
+        """The ring has these bytes, and no call wrote them."""
+        self.ring = ring
+
+    def salvage(self, numbers):
+        self.lines.append(self.ask("salvage", numbers))
+        _, _, self.record, self.ring, _ = salvage_model.salvage(self.record, self.ring, numbers)
+
     def ask(self, name, *arguments):
         return call(name, self.record, self.ring, *arguments)
 
@@ -63,6 +72,11 @@ class RowLife(Life):
         refusal, record, _, second, row = coarse_model.coarsen_row(self.record, self.ring, m, second, row)
         if not refusal:
             self.record, self.ring, self.row = record, second, row
+
+    def salvage(self, numbers):
+        """The row is rebuilt too."""
+        self.lines.append(self.ask("salvage_row", numbers, self.row))
+        _, _, self.record, self.ring, _, self.row = salvage_model.salvage_row(self.record, self.ring, numbers, self.row)
 
     def ask_row(self, name, *arguments):
         return call(name, self.record, self.ring, self.row, *arguments)

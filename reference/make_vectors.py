@@ -4,8 +4,8 @@
     python3 reference/make_vectors.py            writes both files, the same ones each time
     python3 reference/make_vectors.py --check    says whether they are the ones that stand there
 
-The answers come from model.py, row_model.py, coarse_model.py and zone_model.py, which are written to docs/SCOPE.md alone and are first held to the
-figures of worked.py.
+The answers come from model.py, row_model.py, coarse_model.py, zone_model.py and salvage_model.py, which are written to docs/SCOPE.md alone and are
+first held to the figures of worked.py.
 The calls stand in sections, each begun by a line `# NAME`; docs/PROMISES.md names them.
 It takes Python 3.9 or later, and no package.
 """
@@ -31,6 +31,9 @@ import row_faults
 import row_lives
 import row_total_calls
 import run_calls
+import salvage_calls
+import salvage_faults
+import salvage_row_calls
 import score_calls
 import trend_books
 import trend_calls
@@ -49,8 +52,9 @@ def sections():
     of_books = (paper_cases, ring_calls, book_calls, run_calls, rest_calls, row_calls, row_lives, row_total_calls, trend_calls)
     coarser = (coarse_calls, coarse_row_calls)
     of_zones = (zone_calls, zone_refusal_calls)
+    salvaged = (salvage_calls, salvage_row_calls)
     of_images = (image_calls, comment_calls, two_byte_calls, score_calls, mask_calls, mask_header_calls)
-    for part in (*of_books, *coarser, *of_zones, *of_images, other_lines):
+    for part in (*of_books, *coarser, *of_zones, *salvaged, *of_images, other_lines):
         yield from part.sections()
 
 
@@ -64,7 +68,7 @@ def lines():
 def main():
     calls = list(lines())
     faults = [*worked.faults(), *run_calls.faults(), *row_faults.faults(), *trend_books.faults(), *mask_calls.faults()]
-    faults += [*coarse_faults.faults(calls), *zone_faults.faults(calls)]
+    faults += [*coarse_faults.faults(calls), *zone_faults.faults(calls), *salvage_faults.faults(calls)]
     faults += [f"no section is named {name}" for name in worked.FIGURES.keys() - dict(sections()).keys()]
     if faults:
         sys.exit("\n".join(faults))

@@ -1,5 +1,5 @@
 """Figures worked by hand, as calls and answers: the cases A to G of docs/SCOPE.md, slots of one bit, books at rest, books with a row of sums,
-trends, coarser books, zones, comments in headers, pixels of two bytes, masks, and the lines of the vectors' format.
+trends, coarser books, zones, salvaged rings, comments in headers, pixels of two bytes, masks, and the lines of the vectors' format.
 
 The model is held to them each time the vectors are made. They stand first in the section of their name.
 """
@@ -17,6 +17,8 @@ ONES_33 = "1,33,1,0,0,33,0,0 ffffffff80 32,33"
 ONES_33_AND_0 = "1,33,1,0,0,33,1,0 7fffffff80 32,33"
 ONES_65_AND_33_0S = "1,65,1,0,0,65,33,0 000000007fffffff80 0,64,65"
 ONES_95 = "1,128,1,0,0,95,95,0 fffffffffffffffffffffffe00000000 32,64,0,0"
+# 33 entries of a row of slot numbers, and the numbers of 33 slots.
+SEVENS, TO_32 = ",".join("7" * 33), ",".join(str(slot) for slot in range(33))
 # The program's first two images, with comments of different places and lengths.
 DARK = b"P5 #c\n2 2 255\n" + bytes(4)
 LIT = b"P5# a longer one\r 2 2 255#\n\n" + bytes([20, 12, 13, 0])
@@ -368,6 +370,61 @@ FIGURES = {
         (f"zone_add {ZONE_A} 40 18446744073709551615 2", f"20 0 {ZONE_A} 40"),
         (f"zones_add {';'.join([ZONE_A] * 97)} - -", f"20 0 {';'.join([ZONE_A] * 97)} -"),
         (f"zones_add {';'.join([ZONE_A] * 98)} - -", "?"),
+    ],
+    # A: 010 and five bits behind it. B: 00 11 00 01, of which 2 is the most, so that slot 1 becomes 10; it is the third newest. C: slots of four bits
+    # that hold 9 at the most, slot 0 being the newest and slot 1 the oldest: each of them alone, all three, and bits and a byte behind them.
+    "salvage: cases A, B and C": [
+        ("salvage 5,6,10,13,1,6,0,0 5f 7,8,9", "0 0 5,6,10,13,1,6,0,0 40 7,8,9"),
+        ("salvage 3,4,2,1,0,4,0,0 31 9,9,9,9", "0 1 3,4,2,1,0,2,0,0 21 1,9,9,9"),
+        ("salvage 3,4,2,1,0,4,0,0 ff 9,9,9,9", "0 4 3,4,2,1,0,0,0,0 aa 0,1,2,3"),
+        ("salvage 9,3,1,0,0,3,1,0 2a40 9,9,9", "0 1 9,3,1,0,0,2,1,0 2940 1,9,9"),
+        ("salvage 9,3,1,0,0,3,1,0 20a0 9,9,9", "0 1 9,3,1,0,0,1,1,0 2090 2,9,9"),
+        ("salvage 9,3,1,0,0,3,1,0 f040 9,9,9", "0 1 9,3,1,0,0,0,1,0 9040 0,9,9"),
+        ("salvage 9,3,1,0,0,3,1,0 bcd0 9,9,9", "0 3 9,3,1,0,0,0,1,0 9990 1,2,0"),
+        ("salvage 9,3,1,0,0,3,1,0 204fff 9,9,9", "0 0 9,3,1,0,0,3,1,0 2040ff 9,9,9"),
+        *((f"total 9,3,1,0,0,2,1,0 2940 {i}", answer) for i, answer in [(1, "0 2"), (2, "0 6"), (3, "5 0")]),
+    ],
+    # Items 1 0 0 0 leave 00. Of the last three, all 0, this ring tells 1 + 2 * 1 - 1 - 1.
+    "salvage: what cannot be seen": [
+        ("salvage 1,3,2,1,0,3,0,0 80 0,0,0,0", "0 0 1,3,2,1,0,3,0,0 80 0,0,0,0"),
+        ("total 1,3,2,1,0,3,0,0 80 3", "0 1"),
+    ],
+    # Slot 2 is the second newest: the last item alone is not in it or behind it.
+    "salvage: how many items are kept": [
+        (f"salvage 9,3,1,0,0,{kept},1,0 20a0 9,9,9", f"0 1 9,3,1,0,0,{then},1,0 2090 2,9,9") for kept, then in [(0, 0), (1, 1), (2, 1), (3, 1)]
+    ],
+    # 110 111 001 and seven bits behind them.
+    "salvage: bits after the last slot": [("salvage 6,3,1,0,0,3,0,0 dcff 0,0,0", "0 1 6,3,1,0,0,1,0,0 d880 1,0,0")],
+    "salvage: rows of slot numbers of every size": [
+        *((f"salvage 9,3,1,0,0,3,1,0 20a0 {row}", f"21 0 9,3,1,0,0,3,1,0 20a0 {row}") for row in ("9,9", "-")),
+        ("salvage 9,3,1,0,0,3,1,0 20a0 9,9,9,9", "0 1 9,3,1,0,0,1,1,0 2090 2,9,9,9"),
+    ],
+    # R has to be 0. Then nothing is amiss, and 2 + 0 + 9 is the sum.
+    "salvage: the order of refusals": [
+        ("salvage_row 9,3,1,1,0,3,1,0 20 1,2 -", "8 0 9,3,1,1,0,3,1,0 20 1,2 -"),
+        ("salvage_row 9,3,1,0,0,3,1,0 20 1,2 -", "4 0 9,3,1,0,0,3,1,0 20 1,2 -"),
+        ("salvage_row 9,3,1,0,0,3,1,0 20a0 1,2 -", "21 0 9,3,1,0,0,3,1,0 20a0 1,2 -"),
+        ("salvage_row 9,3,1,0,0,3,1,0 20a0 1,2,3 -", "18 0 9,3,1,0,0,3,1,0 20a0 1,2,3 -"),
+        ("salvage_row 9,3,1,0,0,3,1,0 20a0 1,2,3 7,5", "0 1 9,3,1,0,0,1,1,0 2090 2,2,3 11,5"),
+    ],
+    "salvage: books at rest": [
+        (f"salvage 9,3,1,0,0,3,1,{mark} 20a0 9,9,9", f"0 1 9,3,1,0,0,1,1,{mark} 2090 2,9,9") for mark in (1, 256, 2**64 - 1)
+    ],
+    "salvage: twice": [("salvage 9,3,1,0,0,1,1,0 2090 2,9,9", "0 0 9,3,1,0,0,1,1,0 2090 2,9,9")],
+    # 33 slots of two bits: each of them 3, and the last alone.
+    "salvage: rows of sums around the ends of groups": [
+        (f"salvage_row 2,33,1,0,0,33,0,0 {'ff' * 9} {SEVENS} 9,9,9", f"0 33 2,33,1,0,0,0,0,0 {'aa' * 8}80 {TO_32} 64,66,9"),
+        (f"salvage_row 2,33,1,0,0,33,0,0 {'00' * 8}c0 {SEVENS} 9,9", f"0 1 2,33,1,0,0,0,0,0 {'00' * 8}80 32{SEVENS[1:]} 0,2"),
+    ],
+    # The sums were of the lap before, when slot 0 was 1. By those of now slots 1 to 31 are read singly, and slot 32 is 32 - 31.
+    "salvage: rows of sums where nothing is altered": [
+        (f"salvage_row 1,33,1,0,0,33,1,0 7fffffffff {SEVENS} 32,33", f"0 0 1,33,1,0,0,33,1,0 7fffffff80 {SEVENS} 31,32"),
+        ("total_row 1,33,1,0,0,33,1,0 7fffffff80 31,32 33", "0 32 33 2"),
+    ],
+    "salvage: lines that cannot be read, and some that just can": [
+        *((f"salvage 9,3,1,0,0,3,1,0 20f0{rest}", "?") for rest in ("", " 1,2,3 1", " 4294967296,2,3", " 1,2,")),
+        ("salvage 9,3,1,0,0,3,1,0 20f0 0,7,4294967295", "0 1 9,3,1,0,0,1,1,0 2090 2,7,4294967295"),
+        *((f"salvage_row 9,3,1,0,0,3,1,0 20f0 1,2,3{rest}", "?") for rest in ("", " 4294967296", " 1 1")),
     ],
     # Rings all 1: the slots count, and nothing behind them; one byte is too short for 12. Then slots 4 to 7 and 12 are 1, of 13; and of 72 the
     # first and the last.

@@ -1,6 +1,7 @@
 /* Case A of docs/SCOPE.md, through the header, item by item and as one run, its book at rest, its trends, its book with a row and made
-   coarser, larger books with a row and made coarser, its book and another as two zones, 96 zones, the small pictures of its program, pictures
-   of two bytes a pixel, headers with comments, and pictures under masks; the shapes of its book and of the box's. */
+   coarser, larger books with a row and made coarser, scrambled rings that are salvaged, its book and another as two zones, 96 zones, the small
+   pictures of its program, pictures of two bytes a pixel, headers with comments, and pictures under masks; the shapes of its book and of the
+   box's. */
 #include "../include/uprzezar.h"
 
 #include <inttypes.h>
@@ -490,6 +491,181 @@ static void coarser(void) {
     coarser_windows(1, 4096, 1, 5983, 16, 3000);
 }
 
+/* A book with a ring, a row and entries for slot numbers, of which so many are lent. */
+typedef struct {
+    rowed lent;
+    uint32_t numbers[301];
+    size_t number_entries;
+} dipped;
+
+/* Sets every entry to 9, and how many are lent. */
+static void nines(dipped *d, size_t number_entries) {
+    size_t i;
+    for (i = 0; i < sizeof d->numbers / sizeof *d->numbers; i++)
+        d->numbers[i] = 9;
+    d->number_entries = number_entries;
+}
+
+/* The record, the ring's first bytes, the first slot numbers and the row's first entries. */
+static void print_salvaged(const char *call, uprzezar_salvaged a, const dipped *d) {
+    uprzezar_book b = a.book;
+    size_t i;
+    printf("%s: refusal %u, count %" PRIu64 ": carry %" PRIu64 ", phase %" PRIu64 ", kept %" PRIu64 ", head %" PRIu64 ", resting %" PRIu64
+           ", ring %02x %02x %02x, numbers",
+           call, a.refusal, a.count, b.carry, b.phase, b.kept, b.head, b.resting, d->lent.ring[0], d->lent.ring[1], d->lent.ring[2]);
+    for (i = 0; i < 6; i++)
+        printf(" %" PRIu32, d->numbers[i]);
+    printf(", row %" PRIu32 " %" PRIu32 "\n", d->lent.row[0], d->lent.row[1]);
+}
+
+/* Salvages a copy without its row, and then the ring with its row, both as they were scrambled; what comes back goes on with the row. */
+static void salvage(dipped *d) {
+    rowed *r = &d->lent;
+    dipped own = *d;
+    uprzezar_salvaged a = uprzezar_salvage(r->book, own.lent.ring, r->bytes, own.numbers, d->number_entries);
+    print_salvaged("salvage", a, &own);
+    a = uprzezar_salvage_row(r->book, r->ring, r->bytes, d->numbers, d->number_entries, r->row, r->entries);
+    print_salvaged("salvage_row", a, d);
+    r->book = a.book;
+}
+
+/* The book of "A ring put right" in docs/SCOPE.md after its items, its ring scrambled, with all that it takes lent. */
+static void scramble(dipped *d) {
+    static const uint64_t items[] = {9, 4, 0, 7, 3, 8};
+    rowed *r = &d->lent;
+    open_rowed(r, 9, 5, 2);
+    r->bytes = 2;
+    r->entries = 1;
+    run_row(r, items, sizeof items / sizeof *items);
+    r->ring[0] = 0x98;
+    r->ring[1] = 0x73;
+    nines(d, 6);
+}
+
+/* It is put right, put right again, and goes on; then with just so many entries as slots, and at rest. */
+static void ring_put_right(void) {
+    static const uint64_t more[] = {0, 9, 1, 8};
+    dipped d;
+    size_t i;
+    scramble(&d);
+    salvage(&d);
+    for (i = 0; i <= 3; i++)
+        total_row(&d.lent, i);
+    salvage(&d);
+    add_row(&d.lent, 6);
+    total_row(&d.lent, 3);
+    for (i = 0; i < sizeof more / sizeof *more; i++)
+        add_row(&d.lent, more[i]);
+    for (i = 0; i <= 5; i++)
+        total_row(&d.lent, i);
+    scramble(&d);
+    d.number_entries = 5;
+    d.lent.book.resting = UINT64_MAX;
+    salvage(&d);
+}
+
+/* The same book after two items, with a scrambled slot that no block was written into yet: what is kept stays. */
+static void kept_stays(void) {
+    dipped d;
+    open_rowed(&d.lent, 9, 5, 2);
+    d.lent.bytes = 2;
+    d.lent.entries = 1;
+    add_row(&d.lent, 9);
+    add_row(&d.lent, 4);
+    uprzezar_ring_write(3, 5, d.lent.ring, 2, 3, 7);
+    nines(&d, 5);
+    salvage(&d);
+    total_row(&d.lent, 2);
+}
+
+/* The order of the refusals: all of them hold at first, and then one less each time. */
+static void salvage_refused(void) {
+    dipped d;
+    uprzezar_book good;
+    scramble(&d);
+    good = d.lent.book;
+    d.lent.book.phase = 1;
+    d.lent.bytes = 1;
+    d.lent.entries = 0;
+    d.number_entries = 4;
+    salvage(&d);
+    d.lent.book = good;
+    salvage(&d);
+    d.lent.bytes = 2;
+    salvage(&d);
+    d.number_entries = 5;
+    salvage(&d);
+    d.lent.entries = 1;
+    salvage(&d);
+}
+
+/* Case A, whose tolerance is at least its bound, with a ring of ones: no slot can be seen to be scrambled, and the figures say nothing. */
+static void nothing_seen(void) {
+    static const uint64_t items[] = {3, 4, 5, 5, 0, 1, 5};
+    dipped d;
+    open_rowed(&d.lent, 5, 6, 10);
+    d.lent.bytes = 1;
+    d.lent.entries = 1;
+    run_row(&d.lent, items, sizeof items / sizeof *items);
+    d.lent.ring[0] = 0xff;
+    nines(&d, 3);
+    salvage(&d);
+    total_row(&d.lent, 6);
+}
+
+/* 300 slots of 7 bits, of which one in so many is scrambled to 127 after 450 items; then some items more. Prints how many slot numbers are
+   in another place than they should be, and then, over all windows that are kept, by how much a figure is short of the true total at most, how
+   many are above it, and how many are others by the row. */
+static void salvaged_windows(uint64_t every, uint64_t more) {
+    uint64_t slot;
+    uint64_t i;
+    uint64_t at = 0;
+    uint64_t held = 0;
+    uint64_t most = 0;
+    uint64_t above = 0;
+    uint64_t others = 0;
+    uint64_t misplaced = 0;
+    dipped d;
+    rowed *r = &d.lent;
+    open_rowed(r, 200, 300, 3);
+    for (i = 0; i < 450; i++)
+        r->book = uprzezar_add_row(r->book, r->ring, r->bytes, r->row, r->entries, item_at(i, 200)).book;
+    for (slot = 0; slot < 300; slot += every)
+        uprzezar_ring_write(7, 300, r->ring, r->bytes, slot, 127);
+    nines(&d, 301);
+    salvage(&d);
+    for (i = 0; i < 300; i++) {
+        slot = (r->book.head + i) % 300;
+        if (slot % every == 0)
+            misplaced += d.numbers[at++] != slot;
+    }
+    for (i = 450; i < 450 + more; i++)
+        r->book = uprzezar_add_row(r->book, r->ring, r->bytes, r->row, r->entries, item_at(i, 200)).book;
+    for (i = 0; i <= r->book.kept; i++) {
+        uint64_t total = uprzezar_total(r->book, r->ring, r->bytes, i).figure;
+        held += i == 0 ? 0 : item_at(450 + more - i, 200);
+        above += total > held;
+        most = total <= held && held - total > most ? held - total : most;
+        others += total != uprzezar_total_row(r->book, r->ring, r->bytes, r->row, r->entries, i).figure;
+    }
+    printf("one slot in %" PRIu64 " scrambled, %" PRIu64 " items more: kept %" PRIu64 ", misplaced %" PRIu64 ", short by at most %" PRIu64
+           "; above: %" PRIu64 ", other figures: %" PRIu64 "; the byte behind the ring: %02x, the number behind all: %" PRIu32
+           ", the entry behind all: %" PRIu32 "\n",
+           every, more, r->book.kept, misplaced, most, above, others, r->ring[263], d.numbers[300], r->row[10]);
+}
+
+static void salvages(void) {
+    ring_put_right();
+    kept_stays();
+    salvage_refused();
+    nothing_seen();
+    salvaged_windows(1, 0);
+    salvaged_windows(1, 100);
+    salvaged_windows(70, 0);
+    salvaged_windows(70, 300);
+    salvaged_windows(300, 20);
+}
+
 /* Two zones and one byte behind their stretches, of which so many bytes are lent. */
 typedef struct {
     uprzezar_book zones[2];
@@ -797,6 +973,7 @@ int main(void) {
     trends();
     rows();
     coarser();
+    salvages();
     zones();
     pictures();
     two_bytes();

@@ -3,7 +3,7 @@
 use crate::chance::Chance;
 use crate::pictures::{Kind, ONE_BYTE, TWO_BYTES};
 use crate::plain::book::{Book, Shape};
-use crate::plain::{image, score, zones, Refusal};
+use crate::plain::{image, ring, score, zones, Refusal};
 use crate::proved;
 use std::hint::black_box;
 
@@ -30,6 +30,13 @@ const SETTINGS: [(&str, u64, u64, u64); 4] = [
     ("n 4,096, b 1", 1, 4096, 1),
     ("n 4,096, b 8", 255, 4096, 1),
     ("n 4,096, b 16", 65535, 4096, 1),
+];
+
+/// The settings that are salvaged. In the box's no slot can be above z, and its ring is not walked through.
+const SALVAGED: [(&str, u64, u64, u64); 3] = [
+    SETTINGS[0],
+    ("n 4,096, b 8, z 200", 200, 4096, 1),
+    ("n 4,096, b 16, z 40,000", 40000, 4096, 1),
 ];
 
 const RUN: u64 = 1000;
@@ -284,6 +291,62 @@ fn coarsen_cases(cases: &mut Vec<Case>, setting: &str, bound: u64, length: u64, 
     }
 }
 
+/// A book with a row for slot numbers, and bytes that its ring begins with before each salvage, none where nothing of it is altered.
+#[derive(Clone)]
+struct Dipped {
+    filled: Filled,
+    numbers: Vec<u32>,
+    begins: Vec<u8>,
+}
+
+impl Dipped {
+    fn sound(filled: Filled) -> Dipped {
+        Dipped { filled, numbers: vec![0; 4096], begins: Vec::new() }
+    }
+
+    /// Every 16th slot holds the largest number that its bits can write.
+    fn scrambled(mut filled: Filled, shape: Shape) -> Dipped {
+        for slot in (0..shape.slots).step_by(16) {
+            ring::write(shape.width, shape.slots, &mut filled.ring, slot, (1 << shape.width) - 1).expect("a slot of the ring");
+        }
+        let begins = filled.ring[..shape.bytes()].to_vec();
+        Dipped { begins, ..Dipped::sound(filled) }
+    }
+
+    /// Salvage again and again, with the same record and the same bytes of the ring.
+    fn salvaged<T>(mut self, salvage: impl Fn(Book, &mut [u8], &mut [u32], &mut [u32]) -> T + 'static) -> Repeated {
+        repeated(move || {
+            let Filled { book, ring, row } = &mut self.filled;
+            ring[..self.begins.len()].copy_from_slice(&self.begins);
+            salvage(black_box(*book), ring, &mut self.numbers, row)
+        })
+    }
+}
+
+/// Salvage without a row and with one.
+fn salvage_pair(cases: &mut Vec<Case>, what: &str, dipped: Dipped) {
+    cases.push(Case {
+        name: format!("salvage, {what}"),
+        plain: dipped.clone().salvaged(|mut book, ring, numbers, _| (book.salvage(ring, numbers), book)),
+        proved: dipped.clone().salvaged(|book, ring, numbers, _| proved::salvage(crossed(book), ring, numbers)),
+    });
+    cases.push(Case {
+        name: format!("salvage with a row, {what}"),
+        plain: dipped.clone().salvaged(|mut book, ring, numbers, row| (book.salvage_row(ring, numbers, row), book)),
+        proved: dipped.salvaged(|book, ring, numbers, row| proved::salvage_row(crossed(book), ring, numbers, row)),
+    });
+}
+
+/// Salvage with nothing altered, and, where a slot can be, with every 16th slot altered.
+fn salvage_cases(cases: &mut Vec<Case>, setting: &str, bound: u64, length: u64, tolerance: u64) {
+    let shape = Shape::of(bound, length, tolerance).expect("a good setting");
+    let filled = Filled::by_a_third(bound, length, tolerance);
+    salvage_pair(cases, &format!("nothing altered, {setting}"), Dipped::sound(filled.clone()));
+    if shape.largest + 1 < 1 << shape.width {
+        salvage_pair(cases, &format!("every 16th slot altered, {setting}"), Dipped::scrambled(filled, shape));
+    }
+}
+
 /// Zones of one setting with their rings, and a count for each; the records are of either side.
 #[derive(Clone)]
 struct Zones<B> {
@@ -433,6 +496,9 @@ pub fn all() -> Vec<Case> {
         if tolerance % bound == 0 {
             coarsen_cases(&mut cases, setting, bound, length, tolerance);
         }
+    }
+    for (setting, bound, length, tolerance) in SALVAGED {
+        salvage_cases(&mut cases, setting, bound, length, tolerance);
     }
     let (setting, bound, length, tolerance) = SETTINGS[0];
     zone_cases(&mut cases, setting, bound, length, tolerance);

@@ -72,6 +72,14 @@ pub struct Coarser {
 
 #[derive(Clone, Copy, Debug, PartialEq, Eq)]
 #[repr(C)]
+pub struct Salvaged {
+    pub refusal: u8,
+    pub count: u64,
+    pub book: Book,
+}
+
+#[derive(Clone, Copy, Debug, PartialEq, Eq)]
+#[repr(C)]
 pub struct Zoned {
     pub refusal: u8,
     pub zone: u64,
@@ -158,6 +166,16 @@ extern "C" {
         row: *mut u32,
         entries: usize,
     ) -> Coarser;
+    fn uprzezar_salvage(book: Book, ring: *mut u8, bytes: usize, numbers: *mut u32, slots: usize) -> Salvaged;
+    fn uprzezar_salvage_row(
+        book: Book,
+        ring: *mut u8,
+        bytes: usize,
+        numbers: *mut u32,
+        slots: usize,
+        row: *mut u32,
+        entries: usize,
+    ) -> Salvaged;
     fn uprzezar_zones_add(
         zones: *mut Book,
         zone_count: usize,
@@ -265,6 +283,17 @@ pub fn coarsen_row(book: Book, ring: &[u8], times: u64, second: &mut [u8], row: 
     let (bytes, seconds, entries) = (ring.len(), second.len(), row.len());
     unsafe {
         uprzezar_coarsen_row(book, ring.as_ptr(), bytes, times, second.as_mut_ptr(), seconds, row.as_mut_ptr(), entries)
+    }
+}
+
+pub fn salvage(book: Book, ring: &mut [u8], numbers: &mut [u32]) -> Salvaged {
+    unsafe { uprzezar_salvage(book, ring.as_mut_ptr(), ring.len(), numbers.as_mut_ptr(), numbers.len()) }
+}
+
+pub fn salvage_row(book: Book, ring: &mut [u8], numbers: &mut [u32], row: &mut [u32]) -> Salvaged {
+    let (bytes, slots, entries) = (ring.len(), numbers.len(), row.len());
+    unsafe {
+        uprzezar_salvage_row(book, ring.as_mut_ptr(), bytes, numbers.as_mut_ptr(), slots, row.as_mut_ptr(), entries)
     }
 }
 

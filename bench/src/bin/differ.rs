@@ -15,7 +15,7 @@ use bench::proved;
 /// How many calls of a kind came out with which refusal; 0 for none.
 struct Tally {
     name: &'static str,
-    counts: [u64; 21],
+    counts: [u64; 22],
 }
 
 fn alike<T: PartialEq + std::fmt::Debug>(name: &str, side: &str, other: T, proved: T, call: impl Fn() -> String) {
@@ -662,6 +662,121 @@ fn zone_calls(chance: &mut Chance, t: &mut [Tally]) {
     same(&mut t[1], p.refusal, (p, all_crossed(&a), rings_a), (q, b, rings_b), call);
 }
 
+/// L, n and D of a book that for the most part has slots which can hold more than the largest quotient.
+fn salvage_setting(chance: &mut Chance) -> (u64, u64, u64) {
+    if chance.one_in(4) {
+        return row_setting(chance);
+    }
+    let most = chance.pick(&[4, 40, 2000, 65534]);
+    let bound = 2 + chance.below(most);
+    let most = chance.pick(&[5, 31, 33, 64, 130, 300]);
+    let length = if chance.one_in(100) { 4096 } else { 1 + chance.below(most) };
+    let most = chance.pick(&[1, 3, bound]);
+    (bound, length, 1 + chance.below(most))
+}
+
+/// A record with its ring, and that ring before some of its slots were made larger than a quotient can be; none where other bits were
+/// scrambled too, or record and ring are made up.
+struct Dipped {
+    book: Book,
+    ring: Vec<u8>,
+    before: Option<Vec<u8>>,
+}
+
+/// Makes some slots larger than a quotient can be, where that can be, and scrambles the bits after the last one.
+fn too_large(chance: &mut Chance, shape: &Shape, ring: &mut [u8]) {
+    let above = (1 << shape.width) - 1 - shape.largest;
+    let many = chance.pick(&[0, 1, 2, shape.slots / 16, shape.slots]);
+    for _ in 0..if above == 0 { 0 } else { many } {
+        let (slot, value) = (chance.below(shape.slots as u64) as usize, shape.largest + 1 + chance.below(above));
+        ring::write(shape.width, shape.slots, ring, slot, value).expect("a slot of the ring");
+    }
+    let over = shape.bytes() * 8 - shape.slots * shape.width;
+    ring[shape.bytes() - 1] |= chance.next() as u8 & !(0xff << over);
+}
+
+fn dipped(chance: &mut Chance) -> Dipped {
+    let (bound, length, tolerance) = salvage_setting(chance);
+    let mut ring = lent(chance, ring_bytes(bound, length, tolerance));
+    let opened = if chance.one_in(4) { Err(Refusal::NoBook) } else { Book::open(bound, length, tolerance, &mut ring) };
+    let Ok(mut book) = opened else {
+        return Dipped { book: made_up(chance, bound, length, tolerance), ring, before: None };
+    };
+    let items: Vec<u64> = (0..chance.below(3 * length.min(150))).map(|_| chance.below(bound + 1)).collect();
+    book.run(&mut ring, &items).expect("the items are within the bound");
+    book.resting = mark(chance);
+    let before = ring.clone();
+    if chance.one_in(2) {
+        too_large(chance, &Shape::of(bound, length, tolerance).expect("it was opened"), &mut ring);
+        return Dipped { book, ring, before: Some(before) };
+    }
+    for _ in 0..1 + chance.below(8) {
+        let at = chance.below(ring.len() as u64) as usize;
+        ring[at] = chance.next() as u8;
+    }
+    Dipped { book, ring, before: None }
+}
+
+/// A row for the slot numbers of such a book, for the most part with an entry for each slot.
+fn lent_numbers(chance: &mut Chance, book: &Book) -> Vec<u32> {
+    let block = book.tolerance.checked_div(book.bound).unwrap_or(1).max(1);
+    let slots = book.length.min(4097).div_ceil(block);
+    let entries = match chance.below(16) {
+        0 => slots.saturating_sub(1),
+        1 => slots + 3,
+        2 => 0,
+        3 => chance.below(slots + 1),
+        _ => slots,
+    };
+    (0..entries).map(|_| chance.next() as u32).collect()
+}
+
+/// What salvage gives, and what it leaves of ring, slot numbers and row.
+type Mended = (proved::Salvaged, Vec<u8>, Vec<u32>, Vec<u32>);
+
+fn salvaged(mut book: Book, call: impl FnOnce(&mut Book) -> Result<usize, Refusal>) -> proved::Salvaged {
+    let (refusal, count) = call(&mut book).map_or_else(|refusal| (refusal as u8, 0), |count| (0, count as u64));
+    proved::Salvaged { refusal, count, book: crossed(book) }
+}
+
+/// A second run changes nothing and tells 0 slots; the total of a window by the rebuilt row is that of the walk; and, where every slot that was
+/// scrambled could be seen, that of the ring before.
+fn mended_well(name: &str, before: Option<Vec<u8>>, window: u64, mended: &Mended, call: impl Fn() -> String + Copy) {
+    let book = mended.0.book;
+    let [mut again, mut same] = [(); 2].map(|()| mended.clone());
+    again.0 = proved::salvage_row(book, &mut again.1, &mut again.2, &mut again.3);
+    same.0.count = 0;
+    alike(name, "a second run", again, same, call);
+    let walk = proved::total(book, &mended.1, window);
+    let by_row = proved::total_row(book, &mended.1, &mended.3, window);
+    alike(name, "by the walk", walk, proved::Answer { refusal: by_row.refusal, value: by_row.figure }, call);
+    if let Some(before) = before {
+        alike(name, "before the dip", proved::total(book, &before, window), walk, call);
+    }
+}
+
+fn salvage_calls(chance: &mut Chance, t: &mut [Tally]) {
+    let Dipped { book, ring, before } = dipped(chance);
+    let numbers = lent_numbers(chance, &book);
+    let row = lent_row(chance, book.bound, book.length, book.tolerance);
+    let record = crossed(book);
+    let call = || format!("{book:?}, ring {ring:02x?}, numbers {numbers:?}, row {row:?}");
+
+    let [(mut a, mut numbers_a), (mut b, mut numbers_b)] = [(); 2].map(|()| (ring.clone(), numbers.clone()));
+    let p = salvaged(book, |next| next.salvage(&mut a, &mut numbers_a));
+    let q = proved::salvage(record, &mut b, &mut numbers_b);
+    same(&mut t[0], p.refusal, (p, a, numbers_a), (q, b, numbers_b), call);
+    let [(mut a, mut numbers_a, mut row_a), (mut b, mut numbers_b, mut row_b)] =
+        [(); 2].map(|()| (ring.clone(), numbers.clone(), row.clone()));
+    let p = salvaged(book, |next| next.salvage_row(&mut a, &mut numbers_a, &mut row_a));
+    let q = proved::salvage_row(record, &mut b, &mut numbers_b, &mut row_b);
+    let mended = (q, b, numbers_b, row_b);
+    if q.refusal == 0 {
+        mended_well(t[1].name, before, near(chance, q.book.kept), &mended, call);
+    }
+    same(&mut t[1], p.refusal, (p, a, numbers_a, row_a), mended, call);
+}
+
 fn whites(chance: &mut Chance, into: &mut Vec<u8>) {
     for _ in 0..1 + chance.below(3) * chance.below(2) {
         into.push(chance.pick(b" \t\r\n"));
@@ -852,9 +967,9 @@ fn main() {
     let names = [
         "ring_clear", "ring_read", "ring_write", "ring_sum", "shape", "open", "add", "total", "far", "verdict", "rest", "wake", "run",
         "header", "raster", "score", "masked", "open_row", "add_row", "total_row", "run_row",
-        "trend", "coarsen", "coarsen_row", "zones_add", "zone_add",
+        "trend", "coarsen", "coarsen_row", "zones_add", "zone_add", "salvage", "salvage_row",
     ];
-    let mut tallies = names.map(|name| Tally { name, counts: [0; 21] });
+    let mut tallies = names.map(|name| Tally { name, counts: [0; 22] });
     let mut chance = Chance::new(2026);
     for _ in 0..rounds {
         slots_call(&mut chance, &mut tallies[0..4]);
@@ -869,6 +984,7 @@ fn main() {
         trend_call(&mut chance, &mut tallies[21]);
         coarsen_calls(&mut chance, &mut tallies[22..24]);
         zone_calls(&mut chance, &mut tallies[24..26]);
+        salvage_calls(&mut chance, &mut tallies[26..28]);
     }
     one_bit_sums(&mut chance, &mut tallies[3]);
     let calls: u64 = tallies.iter().flat_map(|tally| tally.counts).sum();

@@ -5,6 +5,7 @@ pub mod coarse;
 pub mod image;
 pub mod program;
 pub mod ring;
+pub mod salvage;
 pub mod score;
 pub mod sums;
 pub mod trend;
@@ -34,4 +35,5 @@ pub enum Refusal {
     RowTooShort = 18,
     CannotCoarsen = 19,
     BadZones = 20,
+    NumbersTooShort = 21,
 }

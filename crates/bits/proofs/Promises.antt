@@ -17,6 +17,8 @@ pub use Rattle.bits.proofs.Replaced.{byte-stays}
 pub use Rattle.bits.proofs.Replaced.{length-with}
 -- and bytes they are
 pub use Rattle.bits.proofs.Replaced.{bytes-with}
+-- the same value put there again changes nothing
+pub use Rattle.bits.proofs.Replaced.{with-again}
 -- ZEROS. Bytes that are 0 at the start of a row are 0 …
 pub use Rattle.bits.proofs.Zeros.{zero-byte}
 -- … and so is every bit in them
@@ -25,6 +27,8 @@ pub use Rattle.bits.proofs.Zeros.{zero-bit}
 pub use Rattle.bits.proofs.Zeros.{zero-part}
 -- and bytes they are, where the rest are
 pub use Rattle.bits.proofs.Zeros.{bytes-zeros}
+-- every bit of a part that writes 0 is 0
+pub use Rattle.bits.proofs.Zeros.{zero-in-part}
 -- WORDS. The word that a few bytes write, and the bytes with a word stored in them
 pub use Rattle.bits.proofs.Words.{wordOf, stored}
 -- a word of one to four bytes is loaded byte by byte

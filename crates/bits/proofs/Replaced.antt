@@ -3,12 +3,13 @@
 use Prim.Native.Nat.{ℕ, _+_, _*_, _^_, _<_, _≤_}
 use native.Mathlib.Nat.{mod-eq-of-lt, lt-of-lt-of-le}
 use native.Mathlib.Omega.{arith}
-use mathlib.Core.List.{List, _++_}
+use mathlib.Core.List.{List, _++_, append-assoc}
 use mathlib.Core.Logic.{_⊎_, inl, inr, ⊎-elim}
-use mathlib.Core.Path.{_≡_, sym, ap, _∙_}
-use lib.ListN.{length, getD, take, drop, length-take, List·getD-eq-default}
+use mathlib.Core.Path.{_≡_, sym, ap, ap₂, _∙_}
+use lib.ListN.{length, getD, take, drop, length-append, length-take, List·getD-eq-default}
 use lib.Pow.{pow-mono}
-use Rattle.bits.specs.Row.{digits, number, bits, partAt, withPart}
+use lib.Seq.{take-at, drop-at, length-take-le}
+use Rattle.bits.specs.Row.{digits, number, bits, packed, partAt, withPart}
 use Rattle.bits.specs.Bytes.{Bytes}
 use Rattle.bits.proofs.Digits.{Binary, binary-append, binary-take, binary-drop, binary-digits, length-digits, number-lt, number-digits}
 use Rattle.bits.proofs.Rows.{binary-bits, length-bits, length-packed, bits-packed, bytes-packed, packed-at, packed-bits}
@@ -85,3 +86,17 @@ module _ (from width value : ℕ) (bytes : List ℕ) where
             ∙ part-stays 8 (i * 8) (inr h)
             ∙ sym (packed-at (length bytes) (bits bytes) i inside)
             ∙ ap (λ (l : List ℕ). getD l i 0) (packed-bits bytes own)
+
+    -- the same value put there again changes nothing
+    row-again : replaced from width (digits width value) row ≡ row
+    row-again =
+        let before : List ℕ = take from (bits bytes) in
+        let after : List ℕ = drop (from + width) (bits bytes) in
+        let long : length before ≡ from = length-take-le from (bits bytes) (omega (arith, fits)) in
+        ap₂ (λ (l r : List ℕ). l ++ digits width value ++ r)
+        (ap (take from) (append-assoc before (digits width value) after) ∙ take-at before (digits width value ++ after) from long)
+        (drop-at (before ++ digits width value) after (from + width)
+        (length-append before (digits width value) ∙ ap₂ _+_ long (length-digits width value)))
+
+    pub with-again : withPart from width value (withPart from width value bytes) ≡ withPart from width value bytes
+    with-again = rw (length-with, bits-with) (ap (packed (length bytes)) row-again)

@@ -1,12 +1,13 @@
--- Bytes that are 0 at the start of a row: every bit in them is 0, and so is every part.
+-- Bytes that are 0 at the start of a row: every bit in them is 0, and so is every part. And a part that is 0: every bit in it is 0.
 -- Assumes nothing.
-use Prim.Native.Nat.{ℕ, zero, suc, _+_, _*_, _<_, _≤_}
+use Prim.Native.Nat.{ℕ, zero, suc, _+_, _-_, _*_, _^_, _<_, _≤_}
 use native.Mathlib.Nat.{suc-mul}
 use native.Mathlib.Omega.{arith}
-use mathlib.Core.List.{List, _++_}
+use mathlib.Core.List.{List, [], _∷_, _++_}
 use mathlib.Core.Path.{_≡_, refl, sym, ap, _∙_}
 use lib.Dec.{lit<}
 use lib.ListN.{length, getD, take, drop, replicate, length-append, length-drop, length-replicate, getD-replicate, replicate-append-replicate}
+use lib.Pow.{pow-pos}
 use lib.Seq.{length-take-le, getD-take, getD-drop, ext-getD}
 use Rattle.bits.specs.Row.{digits, number, bits, partAt}
 use Rattle.bits.specs.Bytes.{Bytes}
@@ -63,3 +64,26 @@ module _ (n : ℕ) (rest : List ℕ) where
       ∙ zero-bit (from + i) (omega arith)
       ∙ sym (getD-replicate width i 0 0 below)))
       ∙ number-zeros width
+
+-- a number with a weight comes to 0 only where it is 0
+weighed-0 : (digit weight : ℕ) → 0 < weight → digit * weight ≡ 0 → digit ≡ 0
+weighed-0 zero weight h e = refl
+weighed-0 (suc n) weight h e = absurd (omega (arith, suc-mul n weight))
+
+-- a row that writes 0 has no other digits
+digits-0 : (row : List ℕ) → number row ≡ 0 → (i : ℕ) → getD row i 0 ≡ 0
+unfolding number
+digits-0 [] e i = refl
+digits-0 (digit ∷ later) e zero = weighed-0 digit (2 ^ length later) (pow-pos (length later)) (omega arith)
+digits-0 (digit ∷ later) e (suc i) = digits-0 later (omega arith) i
+
+-- and a part that writes 0 has no other bits
+pub zero-in-part : (from width : ℕ) (bytes : List ℕ) → partAt from width bytes ≡ 0
+    → (i : ℕ) → from ≤ i → i < from + width → getD (bits bytes) i 0 ≡ 0
+zero-in-part from width bytes e i low high =
+    let k : ℕ = i - from in
+    let at-i : i ≡ from + k = omega arith in
+    let part : List ℕ = drop from (bits bytes) in
+    ap (λ (j : ℕ). getD (bits bytes) j 0) at-i
+    ∙ sym (getD-take width part k 0 (omega arith) ∙ getD-drop from (bits bytes) k 0)
+    ∙ digits-0 (take width part) e k

@@ -40,6 +40,9 @@ pub use Rattle.book.proofs.Demand1.{open-tells, verdict-leaves, verdict
 pub use Rattle.book.proofs.HowFarNames.{smallest-or-none, smallest-is-named, none-is-9, smallest-unique}
 -- NUMBERS of a book in range: c is 1 to n, a block holds at most D or is one item, the slots cover n, by less than a block too much
 pub use Rattle.book.proofs.NumbersInRange.{block-low, block-high, block-holds, slots-low, slots-cover, slots-tight}
+-- a slot holds every quotient up to z; where D is at least L, z is 1 and a slot has one bit
+pub use Rattle.book.proofs.NumbersInRange.{quotient-fits}
+pub use Rattle.book.proofs.ShapeInTwoCases.{one-bit}
 -- the ring of a book takes B bytes, and is lent whole
 pub use Rattle.book.proofs.StepsInRange.{bytes-needed, book-lent}
 -- the slots that a window needs: 1 to s, covering it by less than a block too much

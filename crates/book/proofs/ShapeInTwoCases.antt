@@ -7,7 +7,7 @@ use mathlib.Core.Path.{_≡_, refl, sym, ap, _∙_}
 use Rattle.ring.specs.Slot.{ringBytes}
 use Rattle.book.specs.declared.shape.Shape.{Shape}
 use Rattle.book.specs.Limits.{largestBound, largestLength}
-use Rattle.book.specs.Derived.{ceilDiv, blockLength, slotCount, largestQuotient, binaryDigits, fieldWidth, bytesNeeded}
+use Rattle.book.specs.Derived.{ceilDiv, blockLength, slotCount, largestQuotient, binaryDigits, digitsWithin, fieldWidth, bytesNeeded}
 use Rattle.book.specs.Shape.{shapeOf}
 use Rattle.book.specs.Sound.{Ranges}
 use Rattle.book.proofs.RoundedUp.{ceil-is, ceil-le}
@@ -54,3 +54,10 @@ module _ (bound n tolerance : ℕ) (ranges : Ranges bound n tolerance) where
       shape-from (tolerance / bound) 1 (max-eq-right (block-some h))
       (ceil-is (tolerance / bound * bound) tolerance 1 (ranges .tolerance-low)
       (omega (arith, div-mul-le-self tolerance bound)) (omega arith))
+
+  -- and so is b
+  pub one-bit : bound ≤ tolerance → (largestQuotient bound tolerance ≡ 1) × (fieldWidth bound tolerance ≡ 1)
+  unfolding binaryDigits digitsWithin
+  one-bit h =
+      let e = shape-at-least h in
+      (sym (ap (λ (s : Shape). s .largest) e), sym (ap (λ (s : Shape). s .width) e))

@@ -7,12 +7,11 @@ use native.Mathlib.Omega.{arith}
 use mathlib.Core.Logic.{_⊎_, inl, inr}
 use mathlib.Core.Path.{_≡_, sym, ap, ap₂, _∙_}
 use Rattle.ring.specs.Slot.{ringBytes}
-use Rattle.book.specs.declared.shape.Shape.{Shape}
-use Rattle.book.specs.Derived.{ceilDiv, blockLength, slotCount, binaryDigits, digitsWithin, fieldWidth, bytesNeeded}
+use Rattle.book.specs.Derived.{ceilDiv, blockLength, slotCount, fieldWidth, bytesNeeded}
 use Rattle.book.specs.Sound.{Ranges}
 use Rattle.book.proofs.RoundedUp.{le-or-lt, ceil-is, ceil-covers, ceil-tight}
 use Rattle.book.proofs.NumbersInRange.{block-low, slots-low, slots-high, slots-cover}
-use Rattle.book.proofs.ShapeInTwoCases.{shape-at-least}
+use Rattle.book.proofs.ShapeInTwoCases.{one-bit}
 use Rattle.book.proofs.StepsInRange.{bytes-needed}
 
 -- a number above 0 that divides without a rest goes in at least once
@@ -38,10 +37,7 @@ module _ (bound n tolerance : ℕ) (ranges : Ranges bound n tolerance) (whole : 
 
   -- so that z is 1, and b is 1
   pub whole-width : fieldWidth bound tolerance ≡ 1
-  unfolding binaryDigits digitsWithin
-  whole-width =
-      let enough : bound ≤ tolerance = omega (arith, whole-block, mul-le-mul-right bound (block-low bound tolerance)) in
-      sym (ap (λ (s : Shape). s .width) (shape-at-least bound n tolerance ranges enough))
+  whole-width = one-bit bound n tolerance ranges (omega (arith, whole-block, mul-le-mul-right bound (block-low bound tolerance))) .1
 
 -- a book that counts in units: a block has as many items as D says
 module _ (n times : ℕ) (ranges : Ranges 1 n times) where

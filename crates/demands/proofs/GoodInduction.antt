@@ -1,4 +1,5 @@
--- The one induction over good books: what a fresh book has, and what an accepted item, another mark and being made coarser keep, every good book has.
+-- The one induction over good books: what a fresh book has, and what an accepted item, another mark, being made coarser and salvage keep, every good
+-- book has.
 -- Assumes nothing.
 use Prim.Native.Nat.{ℕ, _≤_}
 use mathlib.Core.List.{List, [], _∷_}
@@ -21,7 +22,12 @@ use Rattle.coarse.specs.Coarsens.{Coarsens}
 use Rattle.coarse.specs.Coarser.{coarsened, coarsenedRing}
 use Rattle.coarse.specs.Calls.{coarserBytes}
 use Rattle.coarse.proofs.Promises.{coarsen-known, coarsen-gives}
-use Rattle.demands.specs.History.{Upon, OnlyAsks, Good, start, adding, resting, waking, coarsening, otherwise}
+use Rattle.salvage.specs.declared.Salvaged.{Salvaged}
+use Rattle.salvage.specs.Salvaged.{salvagedRing, salvagedRecord}
+use Rattle.salvage.specs.Calls.{RingAndNumbers}
+use Rattle.salvage.proofs.Promises.{salvage-known, salvage-gives}
+use Rattle.demands.specs.LeftTrue.{LeftTrue}
+use Rattle.demands.specs.History.{Upon, OnlyAsks, Good, start, adding, resting, waking, coarsening, salvaging, otherwise}
 
 -- a call that is refused or only asks leaves the record, and what was lent, as they came
 pub nothing-changes : {Lent : Type 0} (book : Book) (lent : Lent) (call : Call Book Lent) → Upon book lent call
@@ -41,7 +47,9 @@ module _ (P : Book → List ℕ → List ℕ → Type 0)
     (marks : (book : Book) (ring items : List ℕ) (mark : ℕ) → P book ring items → P (marked book mark) ring items)
     (coarser : (book : Book) (ring items : List ℕ) (times : ℕ) (second : List ℕ) → P book ring items → Usable book (length ring)
     → Coarsens book times → coarserBytes book times ≤ length second
-    → P (coarsened book ring times) (coarsenedRing book ring times second) items) where
+    → P (coarsened book ring times) (coarsenedRing book ring times second) items)
+    (salvages : (book : Book) (ring truth items : List ℕ) → P book truth items → Usable book (length ring) → LeftTrue book ring truth
+    → P (salvagedRecord book ring) (salvagedRing book ring) items) where
   pub good-induction : (book : Book) (ring items : List ℕ) → Good book ring items → P book ring items
   good-induction book ring items (start bound n tolerance lent e) =
       let known = open-known bound n tolerance lent e in
@@ -61,6 +69,11 @@ module _ (P : Book → List ℕ → List ℕ → Type 0)
       let gives = coarsen-gives old bytes times second e in
       rw (ap (λ (r : Coarser). r .book) (gives .0), gives .1)
       (coarser old bytes same times second (good-induction old bytes same good) (known .0) (known .1) (known .2))
+  good-induction book ring items (salvaging old bytes truth same good left-true numbers e) =
+      let known = salvage-known old bytes numbers e in
+      let gives = salvage-gives old bytes numbers e in
+      rw (ap (λ (r : Salvaged). r .book) (gives .0), ap (λ (l : RingAndNumbers). l .ring) (gives .1))
+      (salvages old bytes truth same (good-induction old truth same good) (known .0) left-true)
   good-induction book ring items (otherwise old bytes same good call upon idle) =
       let kept = nothing-changes old bytes call upon idle in
       rw (kept .0, kept .1) (good-induction old bytes same good)

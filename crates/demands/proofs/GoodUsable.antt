@@ -17,10 +17,12 @@ use Rattle.book.specs.Sound.{Usable}
 use Rattle.book.specs.Calls.{addCall, verdictCall}
 use Rattle.book.proofs.Promises.{book-lent, opened-sound, added-usable, marked-usable, add-taken, verdict-taken, verdict-long}
 use Rattle.coarse.proofs.Promises.{coarsened-usable}
+use Rattle.salvage.proofs.Promises.{salvaged-usable}
 use Rattle.demands.specs.History.{Good}
 use Rattle.demands.proofs.Invariant.{Invariant}
 use Rattle.demands.proofs.InvariantKept.{opened-keeps, added-keeps, marked-keeps}
 use Rattle.demands.proofs.CoarserKeeps.{coarser-keeps}
+use Rattle.demands.proofs.SalvageKeeps.{salvage-keeps}
 use Rattle.demands.proofs.GoodInduction.{good-induction}
 
 pub good-invariant : (book : Book) (ring items : List ℕ) → Good book ring items → Invariant book (heldIn book ring) items
@@ -30,6 +32,7 @@ good-invariant =
     (λ book ring items item inv usable small. added-keeps book ring items inv item usable small .inv)
     (λ book ring items mark inv. marked-keeps book _ items mark inv)
     (λ book ring items times second inv usable can room. coarser-keeps book ring items inv usable times can second room)
+    salvage-keeps
 
 pub good-usable : (book : Book) (ring items : List ℕ) → Good book ring items → Usable book (length ring)
 good-usable =
@@ -43,6 +46,7 @@ good-usable =
     (λ book ring items item before usable small. added-usable book ring item usable small)
     (λ book ring items mark usable. marked-usable book (length ring) mark usable)
     (λ book ring items times second before usable can room. coarsened-usable book ring times usable can second room)
+    (λ book ring truth items before usable left-true. salvaged-usable book ring usable)
 
 module _ (book : Book) (ring items : List ℕ) (good : Good book ring items) where
   pub item-taken : (item : ℕ) → item ≤ book .bound → book .resting ≡ awake → refusalOf (addCall book ring item) ≡ 0

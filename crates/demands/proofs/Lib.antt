@@ -7,6 +7,7 @@ pub mod OlderQuotients
 pub mod SlotsNotReached
 pub mod TallyTaken
 pub mod CoarserKeeps
+pub mod SalvageKeeps
 pub mod GoodInduction
 pub mod IdleCalls
 pub mod GoodUsable
@@ -21,6 +22,8 @@ pub mod RestsKeepGood
 pub mod RowsKept
 pub mod RowCallsKeepGood
 pub mod CoarserKeepsGood
+pub mod SalvageKeepsGood
+pub mod GoodNoneAltered
 pub mod CoarserFollows
 pub mod CoarserBehind
 pub mod ZonesKeepGood

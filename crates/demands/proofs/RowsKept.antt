@@ -3,6 +3,7 @@
 -- Assumes nothing.
 use Prim.Native.Nat.{ℕ, _≤_, _<_}
 use native.Mathlib.Decide.{ℕ-discrete}
+use native.Mathlib.Omega.{arith}
 use mathlib.Core.List.{List, [], _∷_}
 use mathlib.Core.Path.{_≡_, refl, sym, ap, _∙_}
 use lib.ListN.{length}
@@ -13,6 +14,7 @@ use Rattle.book.specs.declared.Figure.{Figure}
 use Rattle.book.specs.declared.Updated.{Updated}
 use Rattle.book.specs.Derived.{slotCount}
 use Rattle.book.specs.Resting.{awake, atRest}
+use Rattle.book.specs.Record.{slotsOf, heldIn}
 use Rattle.book.specs.Adding.{added}
 use Rattle.book.specs.Calls.{markCall, totalCall}
 use Rattle.book.proofs.Promises.{open-known, open-gives, add-known, add-gives, added-same, mark-gives, total-known, total-gives, total-number, total-hands-back}
@@ -24,9 +26,16 @@ use Rattle.sums.proofs.Promises.{open-beside, add-beside, open-leaves-rest, add
 use Rattle.coarse.specs.declared.Coarser.{Coarser}
 use Rattle.coarse.specs.Calls.{coarsenRowCall}
 use Rattle.coarse.proofs.Promises.{coarsen-known, coarsen-gives, coarsen-beside, coarsened-row}
+use Rattle.salvage.specs.declared.Salvaged.{Salvaged}
+use Rattle.salvage.specs.Salvaged.{salvagedRing}
+use Rattle.salvage.specs.Calls.{RingAndNumbers, RingNumbersAndRow, salvageRowCall}
+use Rattle.salvage.specs.After.{bookAfter, ringAfter, bookAfterRow, bothAfter}
+use Rattle.salvage.proofs.Promises.{salvage-known, salvage-gives, salvage-row-known, salvage-row-gives}
+use Rattle.salvage.proofs.Promises.{salvaged-is, rebuilt-rest, rebuilt-kept}
+use Rattle.demands.specs.LeftTrue.{LeftTrue}
 use Rattle.demands.specs.History.{Good}
 use Rattle.demands.specs.History as history
-use Rattle.demands.specs.HistoryWithRow.{GoodWithRow, start, adding, resting, waking, coarsening, otherwise}
+use Rattle.demands.specs.HistoryWithRow.{GoodWithRow, start, adding, resting, waking, coarsening, salvaging, otherwise}
 use Rattle.demands.specs.Demand3.{Demand3}
 use Rattle.demands.specs.DemandsWithRow.{SameTotal, Demand2WithRow}
 use Rattle.demands.proofs.GoodInduction.{nothing-changes}
@@ -39,6 +48,11 @@ total-refused : (book : Book) (ring : List ℕ) (window : ℕ) → (refusalOf (t
 total-refused book ring window some =
     ap (λ (f : Figure). f .figure)
     (sym (result-refused (totalCall book ring window) refl some) ∙ total-hands-back book ring window (refusalOf (totalCall book ring window)))
+
+-- a row that has room and is kept, beside the ring of any book
+pub record RowWithRoom (book : Book) (lent : RingAndRow) : Type 0 where
+  pub room : entriesOf book ≤ length (lent .row)
+  pub kept : RowKept book (lent .ring) (lent .row)
 
 -- what every book kept with a row has
 pub record KeptWithRow (book : Book) (lent : RingAndRow) (items : List ℕ) : Type 0 where
@@ -65,11 +79,11 @@ opened-with-row bound n tolerance lent taken =
           (kept-by-opening bound n tolerance (lent .ring) (lent .row) (known .0) (known .1));
     }
 
--- AN ITEM with the row
-added-with-row : (book : Book) (lent : RingAndRow) (items : List ℕ) → KeptWithRow book lent items → (item : ℕ)
+-- AN ITEM with the row: of any book, good or not, the row has room and is kept as before
+pub item-keeps-row : (book : Book) (lent : RingAndRow) → RowWithRoom book lent → (item : ℕ)
     → refusalOf (addRowCall book (lent .ring) (lent .row) item) ≡ 0
-    → KeptWithRow (resultOf (addRowCall book (lent .ring) (lent .row) item) .book) (leftOf (addRowCall book (lent .ring) (lent .row) item)) (item ∷ items)
-added-with-row book lent items before item taken =
+    → RowWithRoom (resultOf (addRowCall book (lent .ring) (lent .row) item) .book) (leftOf (addRowCall book (lent .ring) (lent .row) item))
+item-keeps-row book lent before item taken =
     let beside = add-beside book (lent .ring) (lent .row) item in
     let same = beside .with-room (before .room) in
     let own = sym (same .same-refusal) ∙ taken in
@@ -78,14 +92,25 @@ added-with-row book lent items before item taken =
     let numbers = added-same book item in
     let entries : entriesOf (added book item) ≡ entriesOf book =
     λ i. entriesFor (slotCount (numbers .bound-same i) (numbers .length-same i) (numbers .tolerance-same i)) in
-    let book-is = ap (λ (u : Updated). u .book) (same .same-result) in
-    let ring-is = same .same-ring in
-    let long = add-leaves-rest book (lent .ring) (lent .row) item .same-length in
+    let book-is = ap (λ (u : Updated). u .book) (same .same-result ∙ gives .0) in
     record {
-      good = rw (book-is, ring-is) (history.adding book (lent .ring) items (before .good) item own);
-      room = rw (book-is ∙ ap (λ (u : Updated). u .book) (gives .0), long, entries) (before .room);
-      kept = rw (book-is ∙ ap (λ (u : Updated). u .book) (gives .0), ring-is ∙ gives .1, beside .row-after taken)
+      room = rw (book-is, add-leaves-rest book (lent .ring) (lent .row) item .same-length, entries) (before .room);
+      kept = rw (book-is, same .same-ring ∙ gives .1, beside .row-after taken)
           (kept-by-adding book (lent .ring) (lent .row) item (known .0) (known .1) (before .room) (before .kept));
+    }
+
+added-with-row : (book : Book) (lent : RingAndRow) (items : List ℕ) → KeptWithRow book lent items → (item : ℕ)
+    → refusalOf (addRowCall book (lent .ring) (lent .row) item) ≡ 0
+    → KeptWithRow (resultOf (addRowCall book (lent .ring) (lent .row) item) .book) (leftOf (addRowCall book (lent .ring) (lent .row) item)) (item ∷ items)
+added-with-row book lent items before item taken =
+    let same = add-beside book (lent .ring) (lent .row) item .with-room (before .room) in
+    let own = sym (same .same-refusal) ∙ taken in
+    let row = item-keeps-row book lent (record { room = before .room; kept = before .kept }) item taken in
+    record {
+      good = rw (ap (λ (u : Updated). u .book) (same .same-result), same .same-ring)
+          (history.adding book (lent .ring) items (before .good) item own);
+      room = row .room;
+      kept = row .kept;
     }
 
 -- ANOTHER MARK: it leaves ring and row
@@ -115,6 +140,43 @@ coarsened-with-row book ring items good times second taken =
       kept = rw (book-is ∙ ap (λ (r : Coarser). r .book) (gives .0), ring-is ∙ gives .1, beside .row-after taken) (row .0);
     }
 
+-- SALVAGED with a row: of any book, good or not, the row is rebuilt, so that it has room and is kept
+pub salvage-keeps-row : (book : Book) (ring numbers row : List ℕ) → refusalOf (salvageRowCall book ring numbers row) ≡ 0
+    → RowWithRoom (bookAfterRow book ring numbers row) (bothAfter book ring numbers row)
+salvage-keeps-row book ring numbers row taken =
+    let known = salvage-row-known book ring numbers row taken in
+    let gives = salvage-row-gives book ring numbers row taken in
+    let head = salvage-known book ring numbers (known .0) .0 .sound .head-high in
+    let held = heldIn book (salvagedRing book ring) in
+    let book-is = ap (λ (r : Salvaged). r .book) (gives .0) ∙ salvaged-is book ring in
+    record {
+      room = rw (book-is, gives .1, rebuilt-rest (slotsOf book) held row (known .1) .same-length) (known .1);
+      kept = rw (book-is, gives .1) (rebuilt-kept (slotsOf book) held row (known .1) (book .head) (omega arith));
+    }
+
+-- it is salvaged as without the row
+pub salvage-row-same : (book : Book) (ring numbers row : List ℕ) → refusalOf (salvageRowCall book ring numbers row) ≡ 0
+    → (bookAfterRow book ring numbers row ≡ bookAfter book ring numbers) × (bothAfter book ring numbers row .ring ≡ ringAfter book ring numbers)
+salvage-row-same book ring numbers row taken =
+    let own = salvage-gives book ring numbers (salvage-row-known book ring numbers row taken .0) in
+    let gives = salvage-row-gives book ring numbers row taken in (
+      ap (λ (r : Salvaged). r .book) (gives .0 ∙ sym (own .0)),
+      ap (λ (l : RingNumbersAndRow). l .ring) (gives .1) ∙ sym (ap (λ (l : RingAndNumbers). l .ring) (own .1)),
+    )
+
+salvaged-with-row : (book : Book) (ring truth items : List ℕ) → Good book truth items → LeftTrue book ring truth → (numbers row : List ℕ)
+    → refusalOf (salvageRowCall book ring numbers row) ≡ 0
+    → KeptWithRow (bookAfterRow book ring numbers row) (bothAfter book ring numbers row) items
+salvaged-with-row book ring truth items good left-true numbers row taken =
+    let same = salvage-row-same book ring numbers row taken in
+    let rebuilt = salvage-keeps-row book ring numbers row taken in
+    record {
+      good = rw (same .0, same .1)
+          (history.salvaging book ring truth items good left-true numbers (salvage-row-known book ring numbers row taken .0));
+      room = rebuilt .room;
+      kept = rebuilt .kept;
+    }
+
 pub kept-with-row : (book : Book) (lent : RingAndRow) (items : List ℕ) → GoodWithRow book lent items → KeptWithRow book lent items
 kept-with-row book lent items (start bound n tolerance both taken) = opened-with-row bound n tolerance both taken
 kept-with-row book lent items (adding old both earlier good item taken) = added-with-row old both earlier (kept-with-row old both earlier good) item taken
@@ -125,6 +187,8 @@ kept-with-row book lent items (waking old both same good taken) =
     let before = kept-with-row old both same good in
     marked-with-row old both same awake before taken (history.waking old (both .ring) same (before .good) taken)
 kept-with-row book lent items (coarsening old ring same good times second taken) = coarsened-with-row old ring same good times second taken
+kept-with-row book lent items (salvaging old ring truth same good left-true numbers row taken) =
+    salvaged-with-row old ring truth same good left-true numbers row taken
 kept-with-row book lent items (otherwise old both same good call upon idle) =
     let unchanged = nothing-changes old both call upon idle in
     rw (unchanged .0, unchanged .1) (kept-with-row old both same good)

@@ -8,6 +8,9 @@ use Rattle.refusals.specs.Call.{Call, refusalOf, resultOf, leftOf}
 use Rattle.book.specs.declared.Book.{Book}
 use Rattle.book.specs.Calls.{openCall, addCall, restCall, wakeCall}
 use Rattle.coarse.specs.Calls.{coarsenCall}
+use Rattle.salvage.specs.Calls.{salvageCall}
+use Rattle.salvage.specs.After.{bookAfter, ringAfter}
+use Rattle.demands.specs.LeftTrue.{LeftTrue}
 
 -- A call upon a record and what is lent with it, the ring or the ring with more, seen by the record that its caller goes on with: a refusal hands
 -- back the record as it came, and this was lent
@@ -21,8 +24,9 @@ OnlyAsks book lent call = (call .given ≡ book) × (call .left ≡ lent)
 
 -- Good book ring items: the record and the ring as the last call left them, and all accepted items, the newest first.
 -- It begins with an opening that is not refused, and goes on with items that are accepted, with resting and waking, which leave the ring and
--- the items, with being made coarser, which leaves the items (from then on the second ring is the book's), and with any call that is refused or
--- only asks.
+-- the items, with being made coarser, which leaves the items (from then on the second ring is the book's), with salvage of a scrambled ring where a
+-- good book with this record has the fields that were left (LeftTrue), which leaves that book's items, and with any call that is refused or only
+-- asks.
 -- A run of counts needs no case of its own: it comes to its items, one by one.
 pub data Good : Book → List ℕ → List ℕ → Type 0 where
   start : (bound n tolerance : ℕ) (lent : List ℕ) → refusalOf (openCall bound n tolerance lent) ≡ 0
@@ -36,6 +40,9 @@ pub data Good : Book → List ℕ → List ℕ → Type 0 where
   coarsening : (book : Book) (ring items : List ℕ) → Good book ring items → (times : ℕ) (second : List ℕ)
       → refusalOf (coarsenCall book ring times second) ≡ 0
       → Good (resultOf (coarsenCall book ring times second) .book) (leftOf (coarsenCall book ring times second)) items
+  salvaging : (book : Book) (ring truth items : List ℕ) → Good book truth items → LeftTrue book ring truth → (numbers : List ℕ)
+      → refusalOf (salvageCall book ring numbers) ≡ 0
+      → Good (bookAfter book ring numbers) (ringAfter book ring numbers) items
   otherwise : (book : Book) (ring items : List ℕ) → Good book ring items → (call : Call Book (List ℕ)) → Upon book ring call
       → (refusalOf call ≡ 0 → ⊥) ⊎ OnlyAsks book ring call → Good (resultOf call) (leftOf call) items
 

@@ -9,10 +9,14 @@ use Rattle.book.specs.declared.Book.{Book}
 use Rattle.book.specs.Calls.{restCall, wakeCall}
 use Rattle.sums.specs.Calls.{RingAndRow, openRowCall, addRowCall}
 use Rattle.coarse.specs.Calls.{coarsenRowCall}
+use Rattle.salvage.specs.Calls.{salvageRowCall}
+use Rattle.salvage.specs.After.{bookAfterRow, bothAfter}
+use Rattle.demands.specs.LeftTrue.{LeftTrue}
 use Rattle.demands.specs.History.{Upon, OnlyAsks, Good}
 
 -- GoodWithRow book lent items: the record, and ring and row in `lent`, as the last call left them, and all accepted items, the newest first.
--- It is opened with the row, or a good book was made coarser with the row, whether it had been kept with a row or not: its old row is not looked at.
+-- It is opened with the row, or a good book was made coarser with the row, or a ring was salvaged with the row, whether the book had been kept
+-- with a row or not: its old row is not looked at.
 -- Every item since is taken with the row, as the last call left it; resting and waking leave ring, row and items; and there may be any call upon
 -- record, ring and row that is refused or only asks.
 -- A run of counts with a row comes to its items, one by one.
@@ -32,6 +36,9 @@ pub data GoodWithRow : Book → RingAndRow → List ℕ → Type 0 where
       → refusalOf (coarsenRowCall book ring times (second .ring) (second .row)) ≡ 0
       → GoodWithRow (resultOf (coarsenRowCall book ring times (second .ring) (second .row)) .book)
       (leftOf (coarsenRowCall book ring times (second .ring) (second .row))) items
+  salvaging : (book : Book) (ring truth items : List ℕ) → Good book truth items → LeftTrue book ring truth → (numbers row : List ℕ)
+      → refusalOf (salvageRowCall book ring numbers row) ≡ 0
+      → GoodWithRow (bookAfterRow book ring numbers row) (bothAfter book ring numbers row) items
   otherwise : (book : Book) (lent : RingAndRow) (items : List ℕ) → GoodWithRow book lent items → (call : Call Book RingAndRow) → Upon book lent call
       → (refusalOf call ≡ 0 → ⊥) ⊎ OnlyAsks book lent call → GoodWithRow (resultOf call) (leftOf call) items
 

@@ -1,3 +1,4 @@
+pub mod LeftTrue
 pub mod History
 pub mod Demand2
 pub mod Demand3
@@ -7,4 +8,5 @@ pub mod RunFromOpening
 pub mod HistoryWithRow
 pub mod DemandsWithRow
 pub mod CoarserBooks
+pub mod SalvagedBooks
 pub mod GoodZones

@@ -81,6 +81,10 @@ cannotCoarsen = 19
 abbrev pub badZones : ℕ
 badZones = 20
 
--- 23: a buffer for a line has fewer than 96 bytes (21 and 22 are kept for requests)
+-- 21: the row of slot numbers has fewer entries than there are slots
+abbrev pub numbersTooShort : ℕ
+numbersTooShort = 21
+
+-- 23: a buffer for a line has fewer than 96 bytes (22 is kept for a request)
 abbrev pub bufferTooShort : ℕ
 bufferTooShort = 23

@@ -40,5 +40,7 @@ pub const CANNOT_COARSEN: u8 = 19;
 
 pub const BAD_ZONES: u8 = 20;
 
-// 23: a buffer for a line has fewer than 96 bytes (21 and 22 are kept for requests).
+pub const NUMBERS_TOO_SHORT: u8 = 21;
+
+// 23: a buffer for a line has fewer than 96 bytes (22 is kept for a request).
 pub const BUFFER_TOO_SHORT: u8 = 23;

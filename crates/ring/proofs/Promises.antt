@@ -10,7 +10,7 @@ use lib.ListN.{length, getD, drop, replicate, length-append, length-drop, length
 use lib.Seq.{drop-at, getD-drop, ext-getD}
 use Rattle.refusals.specs.Call.{refusalOf, resultOf, leftOf}
 use Rattle.refusals.proofs.Calls.{result-taken, left-taken}
-use Rattle.bits.specs.Row.{bits}
+use Rattle.bits.specs.Row.{bits, withPart}
 use Rattle.bits.proofs.Promises.{le-or-lt, part-back, bit-stays, part-stays, byte-stays, length-with, bytes-with, zero-byte, zero-bit, zero-part, bytes-zeros}
 pub use Rattle.bits.specs.Bytes.{Bytes}
 use Rattle.ring.specs.Limits.{widest, mostSlots}
@@ -131,6 +131,13 @@ module _ (width slots : ℕ) (ring : List ℕ) (whole : Lent width slots (length
   bytes-cleared bytes =
       let size : ℕ = ringBytes width slots in
       bytes-zeros size (drop size ring) (λ i. rw (getD-drop size ring i 0) (bytes (size + i)))
+
+  -- a value put into bits behind the last slot leaves what every slot holds
+  pub behind-stays : (n value : ℕ) → slots * width + n ≤ length ring * 8
+      → (slot : ℕ) → slot < slots → field width (withPart (slots * width) n value ring) slot ≡ field width ring slot
+  unfolding field
+  behind-stays n value inside slot below =
+      part-stays (slots * width) n value ring inside width (slot * width) (inl (fields.slot-end width below))
 
 -- B, the bytes that a ring takes, is slots·width / 8 rounded up
 pub bytes-are : (width slots : ℕ) → ringBytes width slots ≡ (slots * width + 7) / 8

@@ -33,8 +33,17 @@ pub use Rattle.sums.proofs.RowOfABook.{kept-by-opening, kept-by-adding,
 pub use Rattle.sums.proofs.KeptByRun.{kept-by-run}
 -- clearing a row that has room, and adding counts, leave its length and what is not used; so does a call with a row, refused or not, if it does so taken
 pub use Rattle.sums.proofs.RowStays.{cleared-rest, all-rest, by-refusal}
+-- THE SUM AT AN END: nothing at 0, and otherwise its entry; and the end of a slot's group is the first end behind the slot
+pub use Rattle.sums.proofs.KeptRow.{stored-0, stored-entry}
+pub use Rattle.sums.proofs.Ends.{group-end}
+-- SUMS OF FIELDS: of none, of a run between two sums from slot 0, and that they see nothing but their own fields; those of a ring stay small,
+-- and are what the ring's own call sums
+pub use Rattle.sums.proofs.SumsOfFields.{from-none, between, to-same}
+pub use Rattle.sums.proofs.FieldsInRange.{sum-small, ring-sums}
 -- FOR CALLS ABOVE with a row beside a call of their own: what it then is, and what it tells
 pub use Rattle.sums.proofs.BesideTheBook.{beside-the-book, with-row-tells}
+-- the numbers that were derived of a book's L, n and D are its own
+pub use Rattle.sums.proofs.Judging.{shape-of-book}
 -- adding counts one after the other with a row: none, one before others, and in parts; and that a book stays one, with its numbers and its mark
 pub use Rattle.sums.proofs.PartByPart.{row-none, row-more, row-apart, Stays, still-a-book}
 -- a group that no block has finished has the entry 0, of a book that was opened with its row

@@ -1,6 +1,7 @@
 -- Demand 1 and uniqueness of each exported call. Where the statement is that of the call behind it, so are its theorems: `ring-calls`,
--- `book-calls`, `sums-calls`, `trend-calls`, `coarse-calls`, `zones-calls`, `image-calls` and `score-calls` say which row it is. `Post` is the
--- statement itself, as it stands at the function; the two calls for zones have none, and their statements are compared with what is promised.
+-- `book-calls`, `sums-calls`, `trend-calls`, `coarse-calls`, `salvage-calls`, `zones-calls`, `image-calls` and `score-calls` say which row it is.
+-- `Post` is the statement itself, as it stands at the function; the two calls for zones have none, and their statements are compared with what is
+-- promised.
 -- Assumes nothing.
 use Prim.Native.Nat.{ℕ}
 use mathlib.Core.List.{List}
@@ -39,6 +40,9 @@ use Rattle.trend.proofs.Promises as trend-calls
 use Rattle.coarse.specs.declared.Coarser.{Coarser}
 use Rattle.coarse.specs.Calls.{coarsenCall, coarsenRowCall}
 use Rattle.coarse.proofs.Promises as coarse-calls
+use Rattle.salvage.specs.declared.Salvaged.{Salvaged}
+use Rattle.salvage.specs.Calls.{salvageCall, salvageRowCall}
+use Rattle.salvage.proofs.Promises as salvage-calls
 use Rattle.zones.specs.declared.Zoned.{Zoned}
 use Rattle.zones.specs.Statements.{allCall, oneCall, AllSays, OneSays}
 use Rattle.zones.proofs.Promises as zones-calls
@@ -72,6 +76,8 @@ use Rattle.uprzezar.proofs.of_sums.uprzezar_total_row.Reads as total-ro
 use Rattle.uprzezar.proofs.of_trend.uprzezar_trend.Reads as trend-reads
 use Rattle.uprzezar.proofs.of_coarse.uprzezar_coarsen.Reads as coarsen-reads
 use Rattle.uprzezar.proofs.of_coarse.uprzezar_coarsen_row.Reads as coarsen-row-reads
+use Rattle.uprzezar.proofs.of_salvage.uprzezar_salvage.Reads as salvage-reads
+use Rattle.uprzezar.proofs.of_salvage.uprzezar_salvage_row.Reads as salvage-row-reads
 use Rattle.uprzezar.proofs.of_zones.uprzezar_zones_add as zones-add
 use Rattle.uprzezar.proofs.of_zones.uprzezar_zone_add as zone-add
 use Rattle.uprzezar.proofs.of_images.uprzezar_header.Reads as header-reads
@@ -176,6 +182,19 @@ module _ (κs : Lfts 3) where
       (λ a e. record { ring = now (e .1 .1 .1 .0); row = now (e .1 .1 .1 .1 .0) })
       (λ a. coarsenRowCall (a .0) (now (a .1 .0)) (a .1 .1 .0) (now (a .1 .1 .1 .0)) (now (a .1 .1 .1 .1 .0))) (λ (r : Coarser). r .refusal)
   coarsen-row-promised = coarse-calls.coarsen-row-promised κs
+
+-- SALVAGE. The ring and the row of slot numbers are what is left …
+module _ (κs : Lfts 2) where
+  pub salvage-promised : Promised (salvage-reads.Post κs) (λ r. r) (λ a e. record { ring = now (e .1 .0); numbers = now (e .1 .1 .0) })
+      (λ a. salvageCall (a .0) (now (a .1 .0)) (now (a .1 .1 .0))) (λ (r : Salvaged). r .refusal)
+  salvage-promised = salvage-calls.salvage-promised κs
+
+-- … and the row of running sums with them
+module _ (κs : Lfts 3) where
+  pub salvage-row-promised : Promised (salvage-row-reads.Post κs) (λ r. r)
+      (λ a e. record { ring = now (e .1 .0); numbers = now (e .1 .1 .0); row = now (e .1 .1 .1 .0) })
+      (λ a. salvageRowCall (a .0) (now (a .1 .0)) (now (a .1 .1 .0)) (now (a .1 .1 .1 .0))) (λ (r : Salvaged). r .refusal)
+  salvage-row-promised = salvage-calls.salvage-row-promised κs
 
 -- A BOOK FOR EACH ZONE. The statements as they stand at the functions, for every model of the logic, …
 module _ {M : Type 1} (𝓤 : URA M) (H : Heap 𝓤) (A : Atoms 𝓤) (mem : Memory → SProp 𝓤) (run : Routine → Fun 𝓤) where

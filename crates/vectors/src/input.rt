@@ -5,6 +5,7 @@ use crate::fields::place;
 use crate::images;
 use crate::rings;
 use crate::row_books;
+use crate::salvages;
 use crate::text;
 use crate::trends;
 use crate::zone_books;
@@ -18,7 +19,7 @@ struct State {
     more: bool,
 }
 
-// The calls on a book.
+// The calls on a book, but for those that salvage its ring.
 fn of_book(line: &[u8], first: &mut [u8], second: &mut [u8], out: &mut [u8]) -> usize {
     let book = books::answer(line, first, out);
     if book != 0 {
@@ -47,6 +48,10 @@ fn known(line: &[u8], first: &mut [u8], second: &mut [u8], out: &mut [u8]) -> us
     let book = of_book(line, first, second, out);
     if book != 0 {
         return book;
+    }
+    let salvaged = salvages::answer(line, first, out);
+    if salvaged != 0 {
+        return salvaged;
     }
     images::answer(line, first, second, out)
 }

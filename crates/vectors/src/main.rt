@@ -9,6 +9,7 @@ mod lent_zones;
 mod reading;
 mod rings;
 mod row_books;
+mod salvages;
 mod text;
 mod trends;
 mod zone_books;
@@ -19,8 +20,8 @@ fn main() {
     let mut buf = [0u8; 600000];
     let mut first = [0u8; 32768];
     let mut second = [0u8; 32768];
-    // The longest answer: a refusal, a place, a record of eight numbers, 32,768 bytes as hex, 16,384 numbers of 10 digits, and the line's end,
-    // less than 246,000 characters.
-    let mut out = [0u8; 262144];
+    // The longest answer: a refusal, a count, a record of eight numbers, 32,768 bytes as hex, two rows of 16,384 numbers of 10 digits, and the
+    // line's end, less than 427,000 characters.
+    let mut out = [0u8; 524288];
     input::run(&mut buf, &mut first, &mut second, &mut out);
 }

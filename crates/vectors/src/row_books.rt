@@ -14,14 +14,14 @@ use book::Book;
 ghost use Rattle.io.specs.Counts.{Counts};
 
 // What the calls on a record are handed first: `record ring row`. Ring and row lie at the start of the lent slices.
-struct Asked {
-    ok: bool,
-    book: Book,
-    bytes: usize,
-    sums: usize,
+pub(crate) struct Asked {
+    pub ok: bool,
+    pub book: Book,
+    pub bytes: usize,
+    pub sums: usize,
 }
 
-fn arguments(line: &[u8], ring: &mut [u8], row: &mut [u32]) -> Asked
+pub(crate) fn arguments(line: &[u8], ring: &mut [u8], row: &mut [u32]) -> Asked
     ensures { λ r. ⌜ Counts (r .bytes) (now (ring .exit)) × Counts (r .sums) (now (row .exit)) ⌝ }
 {
     let entry = record_in(line);

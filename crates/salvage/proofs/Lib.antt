@@ -1,0 +1,13 @@
+pub mod NewestSlots
+pub mod AlteredSlots
+pub mod AtHand
+pub mod WalkAround
+pub mod WalkTurns
+pub mod Behind
+pub mod EachField
+pub mod RowFromFields
+pub mod WhenTaken
+pub mod TheCalls
+pub mod SecondRun
+pub mod Demand1
+pub mod Promises
