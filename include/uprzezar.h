@@ -10,9 +10,9 @@
  *     not even where the length is 0, and is aligned as its type asks;
  *   - while a call runs, nobody else writes those bytes, and bytes lent for writing overlap no others that are lent to that call.
  *
- * What you may leave to us: everything else. Any number, any record, any ring bytes, any row, any image, any mask and any length get an
- * answer, and every answer is proved to be the one that the library's definitions lay down (docs/SCOPE.md has them in words). A refusal
- * comes as a number above 0; then the other numbers of the answer are 0 (but for the place that comes with 7 of uprzezar_run and
+ * What you may leave to us: everything else. Any number, any record, any ring bytes, any row, any image, any mask, any frames and any
+ * length get an answer, and every answer is proved to be the one that the library's definitions lay down (docs/SCOPE.md has them in words).
+ * A refusal comes as a number above 0; then the other numbers of the answer are 0 (but for the place that comes with 7 of uprzezar_run and
  * uprzezar_run_row, and the zone that comes with 8, 17 and 7 of uprzezar_zones_add and uprzezar_zone_add), the record is handed back as it
  * came (opening hands back zeros), and no lent byte, and no lent record, has changed. Where several refusals apply, the first in the order
  * given at the function is the one.
@@ -44,28 +44,30 @@ extern "C" {
 /* The refusals. */
 enum {
     UPRZEZAR_NO_REFUSAL = 0,
-    UPRZEZAR_BAD_BOUND = 1,         /* the bound is not 1 to 65,535 */
-    UPRZEZAR_BAD_LENGTH = 2,        /* the length is not 1 to 4,096 */
-    UPRZEZAR_BAD_TOLERANCE = 3,     /* the tolerance is 0, or it, or that of a coarser book, is above length times bound */
-    UPRZEZAR_RING_TOO_SHORT = 4,    /* the ring, the second ring, or the rings of all zones, have too few bytes */
-    UPRZEZAR_WINDOW_TOO_LONG = 5,   /* the window, or twice the window of a trend, is longer than what is kept */
-    UPRZEZAR_ZERO_ASKED = 6,        /* the amount is 0, or the window of a verdict is */
-    UPRZEZAR_ITEM_TOO_LARGE = 7,    /* the item, or a count of a run or of a zone, is above the bound */
-    UPRZEZAR_NO_BOOK = 8,           /* the record is none that a book can have */
-    UPRZEZAR_NOT_REACHED = 9,       /* no window that is kept reaches the amount */
-    UPRZEZAR_RING_CALL = 10,        /* the ring's own calls: the width is not 1 to 16, the slots are not 1 to 4,096, there is no such slot,
-                                       more slots are to be summed than the ring has, or a value takes more bits than the width */
-    UPRZEZAR_WRONG_BYTE = 11,       /* a wrong byte in the header of an image or a mask, or a number without digits */
-    UPRZEZAR_BAD_NUMBER = 12,       /* width or height is not 1 to 1,024, or maxval not 1 to 65,535 */
-    UPRZEZAR_IMAGE_TOO_LARGE = 13,  /* the image or the mask takes more than 24,576 bytes */
-    UPRZEZAR_ENDS_TOO_EARLY = 14,   /* the image or the mask goes on behind the bytes lent */
-    UPRZEZAR_PIXEL_TOO_LARGE = 15,  /* a pixel is above maxval */
-    UPRZEZAR_IMAGES_DIFFER = 16,    /* the two images differ in width, height or maxval, or the mask has another width or height */
-    UPRZEZAR_BOOK_RESTS = 17,       /* the book rests, and takes no items */
-    UPRZEZAR_ROW_TOO_SHORT = 18,    /* the row has fewer entries than the ring has groups of 32 slots, a last part of a group counted too */
-    UPRZEZAR_CANNOT_COARSEN = 19,   /* the tolerance is no multiple of the bound, or is to be taken fewer than 2 or more than 16 times */
-    UPRZEZAR_BAD_ZONES = 20,        /* there are no zones or more than 96, no zone has that number, or there are not as many counts */
-    UPRZEZAR_NUMBERS_TOO_SHORT = 21 /* there are fewer entries for the numbers of altered slots than the ring has slots */
+    UPRZEZAR_BAD_BOUND = 1,          /* the bound is not 1 to 65,535 */
+    UPRZEZAR_BAD_LENGTH = 2,         /* the length is not 1 to 4,096 */
+    UPRZEZAR_BAD_TOLERANCE = 3,      /* the tolerance is 0, or it, or that of a coarser book, is above length times bound */
+    UPRZEZAR_RING_TOO_SHORT = 4,     /* the ring, the second ring, or the rings of all zones, have too few bytes */
+    UPRZEZAR_WINDOW_TOO_LONG = 5,    /* the window, or twice the window of a trend, is longer than what is kept */
+    UPRZEZAR_ZERO_ASKED = 6,         /* the amount is 0, or the window of a verdict is */
+    UPRZEZAR_ITEM_TOO_LARGE = 7,     /* the item, or a count of a run or of a zone, is above the bound */
+    UPRZEZAR_NO_BOOK = 8,            /* the record is none that a book can have */
+    UPRZEZAR_NOT_REACHED = 9,        /* no window that is kept reaches the amount */
+    UPRZEZAR_RING_CALL = 10,         /* the ring's own calls: the width is not 1 to 16, the slots are not 1 to 4,096, there is no such slot,
+                                        more slots are to be summed than the ring has, or a value takes more bits than the width */
+    UPRZEZAR_WRONG_BYTE = 11,        /* a wrong byte in the header of an image or a mask, or a number without digits */
+    UPRZEZAR_BAD_NUMBER = 12,        /* width or height is not 1 to 1,024, or maxval not 1 to 65,535 */
+    UPRZEZAR_IMAGE_TOO_LARGE = 13,   /* the image or the mask takes more than 24,576 bytes */
+    UPRZEZAR_ENDS_TOO_EARLY = 14,    /* the image or the mask goes on behind the bytes lent */
+    UPRZEZAR_PIXEL_TOO_LARGE = 15,   /* a pixel is above maxval */
+    UPRZEZAR_IMAGES_DIFFER = 16,     /* the two images differ in width, height or maxval, or the mask has another width or height */
+    UPRZEZAR_BOOK_RESTS = 17,        /* the book rests, and takes no items */
+    UPRZEZAR_ROW_TOO_SHORT = 18,     /* the row has fewer entries than the ring has groups of 32 slots, a last part of a group counted too */
+    UPRZEZAR_CANNOT_COARSEN = 19,    /* the tolerance is no multiple of the bound, or is to be taken fewer than 2 or more than 16 times */
+    UPRZEZAR_BAD_ZONES = 20,         /* there are no zones or more than 96, no zone has that number, or there are not as many counts */
+    UPRZEZAR_NUMBERS_TOO_SHORT = 21, /* there are fewer entries for the numbers of altered slots than the ring has slots */
+    UPRZEZAR_BAD_LIT_CALL = 22       /* the calls on lit frames: the length is above 65,536 or above the number of bits lent, i is above
+                                        the length, the step is 0, or k is 0 or above the number of lit frames */
 };
 
 /* The verdicts. What they say of the window is for a book from a good start: the latest record, and a ring changed by nothing else. */
@@ -176,6 +178,12 @@ typedef struct {
     uint64_t value;
 } uprzezar_answer;
 
+/* A number of lit frames, or the place of a frame, from 1; 0 at a refusal. */
+typedef struct {
+    uint8_t refusal;
+    size_t value;
+} uprzezar_lit;
+
 /* The numbers of an image: its raster is the bytes from `start` up to `used`, and the next image may begin at `used`. */
 typedef struct {
     uint8_t refusal;
@@ -227,6 +235,7 @@ UPRZEZAR_ASSERT(sizeof(uprzezar_trended) == 16 && offsetof(uprzezar_trended, tre
 UPRZEZAR_ASSERT(sizeof(uprzezar_ruled) == 24 && offsetof(uprzezar_ruled, verdict) == 1, "ruled");
 UPRZEZAR_ASSERT(offsetof(uprzezar_ruled, window) == 8 && offsetof(uprzezar_ruled, figure) == 16, "ruled");
 UPRZEZAR_ASSERT(sizeof(uprzezar_answer) == 16 && offsetof(uprzezar_answer, value) == 8, "answer");
+UPRZEZAR_ASSERT(sizeof(uprzezar_lit) == 16 && offsetof(uprzezar_lit, value) == 8, "lit");
 UPRZEZAR_ASSERT(sizeof(uprzezar_numbers) == 48 && offsetof(uprzezar_numbers, width) == 8, "numbers");
 UPRZEZAR_ASSERT(offsetof(uprzezar_numbers, height) == 16 && offsetof(uprzezar_numbers, maxval) == 24, "numbers");
 UPRZEZAR_ASSERT(offsetof(uprzezar_numbers, start) == 32 && offsetof(uprzezar_numbers, used) == 40, "numbers");
@@ -244,6 +253,9 @@ UPRZEZAR_ASSERT(offsetof(uprzezar_raster_place, length) == 16, "raster place");
 
 /* The most zones. */
 #define UPRZEZAR_ZONES_MOST 96
+
+/* The most frames that are lit or dark. */
+#define UPRZEZAR_FRAMES_MOST 65536
 
 /* The book. */
 
@@ -442,6 +454,31 @@ uprzezar_answer uprzezar_score(uint64_t bound, uint8_t allowance, const uint8_t 
    for its raster), and 16 for images that differ in width, height or maxval, or a mask of another width or height. */
 uprzezar_answer uprzezar_score_masked(uint64_t bound, uint8_t allowance, const uint8_t *first, size_t first_bytes, const uint8_t *second,
                                       size_t second_bytes, const uint8_t *mask, size_t mask_bytes);
+
+/* Lit frames: one bit a frame, 1 for lit and 0 for dark, eight frames a byte, the first of them in the top bit.
+
+   `length` tells how many frames there are, 0 to UPRZEZAR_FRAMES_MOST; the bits behind them may hold anything, and are never counted. Frames
+   have their places from 1 on. The bytes are only read. Every refusal is 22. */
+
+/* How many of the first `i` frames are lit; `i` may be 0. Refusals: 22 where the length is above UPRZEZAR_FRAMES_MOST or above the number of
+   bits lent, or `i` is above the length. */
+uprzezar_lit uprzezar_rank(const uint8_t *frames, size_t frame_bytes, size_t length, size_t i);
+
+/* The place of the k-th lit frame: it is lit, and its rank is k. Refusals: 22 for the length as above, and where `k` is 0 or above the number
+   of lit frames. */
+uprzezar_lit uprzezar_select(const uint8_t *frames, size_t frame_bytes, size_t length, size_t k);
+
+/* The rank of `i` rounded down to a multiple of `step`: never above the rank, and short of it by less than the step. With step 1 it is the
+   rank. Refusals: 22 where uprzezar_rank is refused, and where the step is 0. */
+uprzezar_lit uprzezar_rank_coarse(const uint8_t *frames, size_t frame_bytes, size_t length, size_t step, size_t i);
+
+/* The place of the k-th lit frame where k is a multiple of `step`; otherwise, with t the largest multiple below k, the place behind the t-th
+   lit frame, or 1 where t is 0. It is never behind the place of the k-th lit frame, and where k is above the step always behind the place of
+   lit frame k - step. With step 1 it is that of uprzezar_select. Refusals: 22 where uprzezar_select is refused, and where the step is 0. */
+uprzezar_lit uprzezar_select_coarse(const uint8_t *frames, size_t frame_bytes, size_t length, size_t step, size_t k);
+
+/* The place, 1 to 8, of the k-th one in a byte, the top bit first; 0 where there is none, and where `k` is not 1 to 8. Never refused. */
+uint8_t uprzezar_in_byte(uint8_t byte, size_t k);
 
 /* The ring alone: `slots` numbers of `width` bits, one after another from the top bit of byte 0. */
 

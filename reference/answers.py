@@ -1,9 +1,10 @@
 """A line of the vectors' format and its answer: what a call's arguments are read from, and how what it gives is written.
 
-Every call of model.py, row_model.py, coarse_model.py, zone_model.py and salvage_model.py has its name here, and what it takes.
+Every call of model.py, row_model.py, coarse_model.py, zone_model.py, salvage_model.py and lit_model.py has its name here, and what it takes.
 """
 
 import coarse_model
+import lit_model
 import model
 import row_model
 import salvage_model
@@ -33,7 +34,7 @@ def take_number(text):
 
 
 def take_byte(text):
-    """A score's allowance is a byte: no refusal is for a larger one, so the line cannot be read."""
+    """A score's allowance is a byte, and so is what is looked into: no refusal is for a larger one, so the line cannot be read."""
     value = take_number(text)
     if value > 255:
         raise Unreadable
@@ -123,6 +124,11 @@ CALLS = {
     "zone_add": (zone_model.add_one, (Z, Y, N, N)),
     "salvage": (salvage_model.salvage, (R, Y, S)),
     "salvage_row": (salvage_model.salvage_row, (R, Y, S, S)),
+    "rank": (lit_model.rank, (Y, N, N)),
+    "select": (lit_model.select, (Y, N, N)),
+    "rank_coarse": (lit_model.rank_coarse, (Y, N, N, N)),
+    "select_coarse": (lit_model.select_coarse, (Y, N, N, N)),
+    "in_byte": (lit_model.in_byte, (A, N)),
     "pgm": (model.pgm, (Y,)),
     "score": (model.score, (N, A, Y, Y)),
     "score_mask": (model.score_mask, (N, A, Y, Y, Y)),

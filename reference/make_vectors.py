@@ -4,8 +4,8 @@
     python3 reference/make_vectors.py            writes both files, the same ones each time
     python3 reference/make_vectors.py --check    says whether they are the ones that stand there
 
-The answers come from model.py, row_model.py, coarse_model.py, zone_model.py and salvage_model.py, which are written to docs/SCOPE.md alone and are
-first held to the figures of worked.py.
+The answers come from model.py, row_model.py, coarse_model.py, zone_model.py, salvage_model.py and lit_model.py, which are written to docs/SCOPE.md
+alone and are first held to the figures of worked.py.
 The calls stand in sections, each begun by a line `# NAME`; docs/PROMISES.md names them.
 It takes Python 3.9 or later, and no package.
 """
@@ -20,6 +20,9 @@ import coarse_faults
 import coarse_row_calls
 import comment_calls
 import image_calls
+import lit_calls
+import lit_faults
+import lit_refusal_calls
 import mask_calls
 import mask_header_calls
 import other_lines
@@ -53,8 +56,9 @@ def sections():
     coarser = (coarse_calls, coarse_row_calls)
     of_zones = (zone_calls, zone_refusal_calls)
     salvaged = (salvage_calls, salvage_row_calls)
+    of_lit_frames = (lit_calls, lit_refusal_calls)
     of_images = (image_calls, comment_calls, two_byte_calls, score_calls, mask_calls, mask_header_calls)
-    for part in (*of_books, *coarser, *of_zones, *salvaged, *of_images, other_lines):
+    for part in (*of_books, *coarser, *of_zones, *salvaged, *of_lit_frames, *of_images, other_lines):
         yield from part.sections()
 
 
@@ -68,7 +72,7 @@ def lines():
 def main():
     calls = list(lines())
     faults = [*worked.faults(), *run_calls.faults(), *row_faults.faults(), *trend_books.faults(), *mask_calls.faults()]
-    faults += [*coarse_faults.faults(calls), *zone_faults.faults(calls), *salvage_faults.faults(calls)]
+    faults += [*coarse_faults.faults(calls), *zone_faults.faults(calls), *salvage_faults.faults(calls), *lit_faults.faults(calls)]
     faults += [f"no section is named {name}" for name in worked.FIGURES.keys() - dict(sections()).keys()]
     if faults:
         sys.exit("\n".join(faults))

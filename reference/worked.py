@@ -1,5 +1,5 @@
 """Figures worked by hand, as calls and answers: the cases A to G of docs/SCOPE.md, slots of one bit, books at rest, books with a row of sums,
-trends, coarser books, zones, salvaged rings, comments in headers, pixels of two bytes, masks, and the lines of the vectors' format.
+trends, coarser books, zones, salvaged rings, lit frames, comments in headers, pixels of two bytes, masks, and the lines of the vectors' format.
 
 The model is held to them each time the vectors are made. They stand first in the section of their name.
 """
@@ -19,6 +19,8 @@ ONES_65_AND_33_0S = "1,65,1,0,0,65,33,0 000000007fffffff80 0,64,65"
 ONES_95 = "1,128,1,0,0,95,95,0 fffffffffffffffffffffffe00000000 32,64,0,0"
 # 33 entries of a row of slot numbers, and the numbers of 33 slots.
 SEVENS, TO_32 = ",".join("7" * 33), ",".join(str(slot) for slot in range(33))
+# 00101100 10011111 with length 12: the frames 3, 5, 6, 9 and 12 are lit. Then the longest row, all of it lit.
+TWELVE, ALL_LIT = "2c9f 12", f"{'ff' * 8192} 65536"
 # The program's first two images, with comments of different places and lengths.
 DARK = b"P5 #c\n2 2 255\n" + bytes(4)
 LIT = b"P5# a longer one\r 2 2 255#\n\n" + bytes([20, 12, 13, 0])
@@ -27,6 +29,11 @@ LIT = b"P5# a longer one\r 2 2 255#\n\n" + bytes([20, 12, 13, 0])
 def pgm(*images):
     """Images with the answers to them; of a refused one the number alone is given."""
     return [(f"pgm {data.hex()}", f"{answer} 0 0 0 0 0 0" if isinstance(answer, int) else answer) for data, answer in images]
+
+
+def in_row(call, answered):
+    """A call with each of these numbers, and the answers; of a refused one None is given."""
+    return [(f"{call} {asked}", "22 0" if given is None else f"0 {given}") for asked, given in answered.items()]
 
 
 def score_mask(width, height, masks, a=12, pixels=b"\xff"):
@@ -437,6 +444,81 @@ FIGURES = {
         *((f"ring_sum 1 13 0f0f 5 {j}", f"0 {ones}") for j, ones in [(1, 1), (5, 1), (6, 2), (10, 2), (11, 3), (13, 5)]),
         *((f"ring_sum 1 72 80{'00' * 7}01 1 {j}", f"0 {ones}") for j, ones in [(0, 0), (1, 1), (2, 2), (72, 2)]),
         *((f"ring_sum 1 72 80{'00' * 7}01 71 {j}", f"0 {ones}") for j, ones in [(70, 0), (71, 1), (72, 2)]),
+    ],
+    # 00101100; then all eight, the first and the last.
+    "lit: in a byte": [
+        *in_row("in_byte 44", {0: 0, 1: 3, 2: 5, 3: 6, 4: 0, 5: 0, 6: 0, 7: 0, 8: 0, 9: 0}),
+        *in_row("in_byte 255", {0: 0, 1: 1, 2: 2, 7: 7, 8: 8, 9: 0}),
+        *in_row("in_byte 128", {1: 1, 2: 0}),
+        *in_row("in_byte 1", {1: 8, 2: 0}),
+        *in_row("in_byte 0", {0: 0, 1: 0}),
+    ],
+    "lit: in a byte, numbers of any size": in_row("in_byte 255", {257: 0, 2**32: 0, 2**32 + 1: 0, 2**64 - 1: 0}),
+    "lit: twelve frames": [
+        *in_row(f"rank {TWELVE}", {0: 0, 2: 0, 3: 1, 4: 1, 8: 3, 9: 4, 11: 4, 12: 5, 13: None}),
+        *in_row(f"rank_coarse {TWELVE} 2", {0: 0, 2: 0, 3: 0, 4: 0, 8: 2, 9: 4, 11: 4, 12: 4, 13: None}),
+        *in_row(f"select {TWELVE}", {0: None, 1: 3, 2: 5, 3: 6, 4: 9, 5: 12, 6: None}),
+        *in_row(f"select_coarse {TWELVE} 1", {0: None, 1: 3, 2: 5, 3: 6, 4: 9, 5: 12, 6: None}),
+        *in_row(f"select_coarse {TWELVE} 2", {0: None, 1: 1, 2: 5, 3: 6, 4: 9, 5: 10, 6: None}),
+        *in_row(f"select_coarse {TWELVE} 3", {0: None, 1: 1, 2: 1, 3: 6, 4: 7, 5: 7, 6: None}),
+        *in_row(f"select_coarse {TWELVE} 18446744073709551615", {0: None, 1: 1, 2: 1, 3: 1, 4: 1, 5: 1, 6: None}),
+        *in_row("rank 2c9f 16", {16: 9, 17: None}),
+        *in_row("select 2c9f 16", {6: 13, 9: 16, 10: None}),
+        *((line, "22 0") for line in ("rank 2c9f 17 0", "select 2c9f 17 1", "rank_coarse 2c9f 17 1 0", "select_coarse 2c9f 17 1 1")),
+    ],
+    # The first frame of the ninth byte; the last of the eighth.
+    "lit: one lit frame": [
+        *in_row(f"rank {'00' * 8}80 65", {64: 0, 65: 1}),
+        *in_row(f"select {'00' * 8}80 65", {1: 65, 2: None}),
+        *in_row(f"rank {'00' * 7}01 64", {63: 0, 64: 1}),
+        *in_row(f"select {'00' * 7}01 64", {1: 64, 2: None}),
+    ],
+    # 00000 and 111 behind it, 11111 and 000 behind it.
+    "lit: bits behind the length": [
+        *in_row("rank 07ff 5", {5: 0, 6: None}),
+        *in_row("select 07ff 5", {1: None}),
+        *in_row("rank f800 5", {5: 5, 6: None}),
+        *in_row("select f800 5", {1: 1, 5: 5, 6: None}),
+    ],
+    # Sixteen lit frames.
+    "lit: steps": [
+        *in_row("rank_coarse ffff 16 8", {0: 0, 7: 0, 8: 8, 15: 8, 16: 16}),
+        *in_row("select_coarse ffff 16 8", {1: 1, 7: 1, 8: 8, 9: 9, 10: 9, 15: 9, 16: 16}),
+        *((f"rank_coarse ffff 16 {d} 16", f"0 {r}") for d, r in [(1, 16), (15, 15), (16, 16), (17, 0), (100, 0)]),
+        *((f"select_coarse ffff 16 {d} 16", f"0 {place}") for d, place in [(1, 16), (15, 16), (16, 16), (17, 1), (100, 1)]),
+        *((f"select_coarse ffff 16 {d} 15", f"0 {place}") for d, place in [(2, 15), (4, 13), (14, 15), (15, 15), (16, 1)]),
+    ],
+    # Of 65,536 the largest multiple of 100 is 65,500.
+    "lit: the longest rows": [
+        *in_row(f"rank {ALL_LIT}", {65536: 65536}),
+        *in_row(f"select {ALL_LIT}", {65536: 65536, 65537: None}),
+        *in_row(f"rank_coarse {ALL_LIT} 100", {65536: 65500}),
+        *in_row(f"select_coarse {ALL_LIT} 100", {65536: 65501}),
+    ],
+    "lit: no bytes": [
+        *in_row("rank - 0", {0: 0, 1: None}),
+        *in_row("rank - 1", {0: None}),
+        *in_row("select - 0", {0: None, 1: None}),
+        *in_row("rank_coarse - 0 18446744073709551615", {0: 0}),
+        *in_row("rank_coarse - 0 0", {0: None}),
+    ],
+    # Seven more than each of the first two is 2^64 and above it.
+    "lit: lengths of any size": [(f"rank {data} {length} 0", "22 0") for length in (2**64 - 7, 2**64 - 1, 2**61) for data in ("-", "ff")],
+    # A step of 0, a number that is too large or 0, and both.
+    "lit: refusals alone and together": [
+        *((f"rank_coarse {TWELVE} {asked}", "22 0") for asked in ("0 0", "0 12", "1 13", "0 13")),
+        *((f"select_coarse {TWELVE} {asked}", "22 0") for asked in ("0 1", "1 0", "0 0", "1 6", "0 6")),
+    ],
+    "lit: above the longest rows": [(f"{name} {'ff' * 8193} 65537 1", "22 0") for name in ("rank", "select")],
+    "lit: lines that cannot be read, and some that just can": [
+        ("in_byte 255 1", "0 1"),
+        ("in_byte 0044 01", "0 3"),
+        *((f"in_byte {rest}", "?") for rest in ("256 1", "-1 1", " 1", "44", "44 1 1", "44 18446744073709551616")),
+        ("in_byte 44 18446744073709551615", "0 0"),
+        *((f"rank {rest}", "?") for rest in ("2c9 0 0", "2C9F 12 1", "2c9f 12", "2c9f 12 1 1", " 0 0", "2c9f 12 -1", "2c9f 12 18446744073709551616")),
+        ("rank 2c9f 012 0012", "0 5"),
+        ("rank 2c9f 12 18446744073709551615", "22 0"),
+        *((f"select_coarse 2c9f 12 {rest}", "?") for rest in ("1", "1 1 1", "- 1", "18446744073709551616 1")),
     ],
     "case G: ranges of width, height and maxval": [
         ("pgm -", "14 0 0 0 0 0 0"),

@@ -1,7 +1,7 @@
 /* Case A of docs/SCOPE.md, through the header, item by item and as one run, its book at rest, its trends, its book with a row and made
    coarser, larger books with a row and made coarser, scrambled rings that are salvaged, its book and another as two zones, 96 zones, the small
-   pictures of its program, pictures of two bytes a pixel, headers with comments, and pictures under masks; the shapes of its book and of the
-   box's. */
+   pictures of its program, pictures of two bytes a pixel, headers with comments, and pictures under masks; twelve frames that are lit or dark,
+   and up to 65,536; the shapes of its book and of the box's. */
 #include "../include/uprzezar.h"
 
 #include <inttypes.h>
@@ -954,6 +954,146 @@ static void masks(void) {
     }
 }
 
+/* Frames that are lit or dark: so many bytes are lent, and there are said to be so many frames. */
+typedef struct {
+    const uint8_t *bytes;
+    size_t lent;
+    size_t length;
+} frames;
+
+/* Each rank and each place is asked for with these steps too. */
+static const size_t steps[] = {0, 1, 2, 3, SIZE_MAX};
+
+static void print_lit(const char *what, size_t which, uprzezar_lit a) {
+    printf("%s %zu: refusal %u, %zu", what, which, a.refusal, a.value);
+}
+
+static void rank(const frames *f, size_t i) {
+    size_t s;
+    printf("%zu frames, ", f->length);
+    print_lit("rank of", i, uprzezar_rank(f->bytes, f->lent, f->length, i));
+    for (s = 0; s < sizeof steps / sizeof *steps; s++)
+        print_lit("; with step", steps[s], uprzezar_rank_coarse(f->bytes, f->lent, f->length, steps[s], i));
+    printf("\n");
+}
+
+static void place(const frames *f, size_t k) {
+    size_t s;
+    printf("%zu frames, ", f->length);
+    print_lit("place of lit frame", k, uprzezar_select(f->bytes, f->lent, f->length, k));
+    for (s = 0; s < sizeof steps / sizeof *steps; s++)
+        print_lit("; with step", steps[s], uprzezar_select_coarse(f->bytes, f->lent, f->length, steps[s], k));
+    printf("\n");
+}
+
+/* The tables of "Twelve frames" in docs/SCOPE.md; then with the four bits behind them, and with one frame more than there are bits. */
+static void twelve_frames(void) {
+    static const uint8_t bytes[] = {0x2c, 0x9f};
+    static const size_t numbers[] = {0, 2, 3, 4, 8, 9, 11, 12, 13, SIZE_MAX};
+    frames f;
+    size_t i;
+    f.bytes = bytes;
+    f.lent = sizeof bytes;
+    f.length = 12;
+    for (i = 0; i < sizeof numbers / sizeof *numbers; i++)
+        rank(&f, numbers[i]);
+    for (i = 0; i <= 6; i++)
+        place(&f, i);
+    place(&f, SIZE_MAX);
+    f.length = 16;
+    rank(&f, 16);
+    place(&f, 6);
+    f.length = 17;
+    rank(&f, 0);
+    place(&f, 1);
+    f.lent = 1;
+    f.length = 8;
+    rank(&f, 8);
+    place(&f, 4);
+    f.lent = 0;
+    rank(&f, 0);
+    f.length = 0;
+    rank(&f, 0);
+    place(&f, 1);
+}
+
+/* As many frames as there may be, in each byte the 3rd, 5th and 6th lit; then one more, though it is lent, and the largest number. */
+static void most_frames(void) {
+    static uint8_t bytes[UPRZEZAR_FRAMES_MOST / 8 + 1];
+    frames f;
+    memset(bytes, 0x2c, sizeof bytes);
+    f.bytes = bytes;
+    f.lent = sizeof bytes;
+    f.length = UPRZEZAR_FRAMES_MOST;
+    rank(&f, 65533);
+    rank(&f, 65536);
+    place(&f, 24575);
+    place(&f, 24576);
+    place(&f, 24577);
+    f.length = UPRZEZAR_FRAMES_MOST + 1;
+    rank(&f, 1);
+    place(&f, 1);
+    f.length = SIZE_MAX;
+    rank(&f, 1);
+    place(&f, 1);
+}
+
+/* So many frames, and a step: how many ranks and places are others than those of a count, frame by frame, and how many with the step lie
+   outside of what the header says of them. */
+static void every_frame(size_t length, size_t step) {
+    static uint8_t bytes[UPRZEZAR_FRAMES_MOST / 8];
+    static size_t places[UPRZEZAR_FRAMES_MOST + 1];
+    size_t lit = 0;
+    size_t ranks = 0;
+    size_t others = 0;
+    size_t outside = 0;
+    size_t i;
+    for (i = 0; i < sizeof bytes; i++)
+        bytes[i] = (uint8_t)item_at(i, 255);
+    for (i = 0; i <= length; i++) {
+        size_t coarse;
+        if (i > 0 && (bytes[(i - 1) / 8] >> (7 - (i - 1) % 8) & 1) != 0) {
+            places[++lit] = i;
+            others += uprzezar_select(bytes, sizeof bytes, length, lit).value != i;
+            coarse = uprzezar_select_coarse(bytes, sizeof bytes, length, step, lit).value;
+            outside += coarse > i || coarse <= (lit > step ? places[lit - step] : 0);
+        }
+        ranks += uprzezar_rank(bytes, sizeof bytes, length, i).value != lit;
+        coarse = uprzezar_rank_coarse(bytes, sizeof bytes, length, step, i).value;
+        outside += coarse > lit || lit - coarse >= step;
+    }
+    printf("%zu frames, step %zu: %zu lit; other ranks: %zu, other places: %zu, outside of the step: %zu; refusals behind the last: %u, %u\n",
+           length, step, lit, ranks, others, outside, uprzezar_rank(bytes, sizeof bytes, length, length + 1).refusal,
+           uprzezar_select(bytes, sizeof bytes, length, lit + 1).refusal);
+}
+
+/* The places for k from 0 to 9, and for some that would be 1 if they were cut to fewer bits. */
+static void in_byte(uint8_t byte) {
+    size_t k;
+    printf("in the byte %02x:", byte);
+    for (k = 0; k <= 9; k++)
+        printf(" %u", uprzezar_in_byte(byte, k));
+    printf("; for larger k: %u %u %u %u\n", uprzezar_in_byte(byte, 257), uprzezar_in_byte(byte, 65537),
+           uprzezar_in_byte(byte, ((size_t)1 << 32) + 1), uprzezar_in_byte(byte, SIZE_MAX));
+}
+
+static void lit_frames(void) {
+    twelve_frames();
+    most_frames();
+    every_frame(1, 1);
+    every_frame(63, 2);
+    every_frame(64, 3);
+    every_frame(65, 64);
+    every_frame(1000, 7);
+    every_frame(65535, 100);
+    every_frame(65536, 10000);
+    in_byte(0x2c);
+    in_byte(0x00);
+    in_byte(0x01);
+    in_byte(0x80);
+    in_byte(0xff);
+}
+
 static void slots(void) {
     uint8_t ring[3] = {0xff, 0xff, 0xff};
     uint8_t cleared = uprzezar_ring_clear(5, 3, ring, sizeof ring);
@@ -979,6 +1119,7 @@ int main(void) {
     two_bytes();
     comments();
     masks();
+    lit_frames();
     slots();
     return 0;
 }

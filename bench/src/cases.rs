@@ -3,7 +3,7 @@
 use crate::chance::Chance;
 use crate::pictures::{Kind, ONE_BYTE, TWO_BYTES};
 use crate::plain::book::{Book, Shape};
-use crate::plain::{image, ring, score, zones, Refusal};
+use crate::plain::{image, lit, ring, score, zones, Refusal};
 use crate::proved;
 use std::hint::black_box;
 
@@ -486,6 +486,85 @@ fn picture_cases(cases: &mut Vec<Case>) {
     masked_case(cases, "120 x 90, maxval 4,095, a painted mask", TWO_BYTES, TWO_BYTES.painted_mask());
 }
 
+/// A call on lit frames, with the same bytes on both sides.
+fn lit_case(
+    cases: &mut Vec<Case>,
+    name: String,
+    row: &[u8],
+    plain: impl Fn(&[u8]) -> Result<usize, Refusal> + 'static,
+    proved: impl Fn(&[u8]) -> proved::Lit + 'static,
+) {
+    let (a, b) = (row.to_vec(), row.to_vec());
+    cases.push(Case {
+        name,
+        plain: repeated(move || plain(black_box(&a))),
+        proved: repeated(move || proved(black_box(&b))),
+    });
+}
+
+/// The places for every byte and every k from 0 to 9, added up.
+fn in_every_byte(in_byte: impl Fn(u8, usize) -> u8) -> u64 {
+    (0..=255).map(|byte| (0..=9).map(|k| u64::from(in_byte(byte, k))).sum::<u64>()).sum()
+}
+
+/// The most frames.
+const FRAMES: usize = 65536;
+
+/// The step of the coarse calls.
+const STEP: usize = 100;
+
+fn rank_cases(cases: &mut Vec<Case>, row: &[u8]) {
+    for (which, i) in [("all 65,536 frames", FRAMES), ("65,529 of 65,536 frames", 65529)] {
+        lit_case(
+            cases,
+            format!("rank, {which}"),
+            row,
+            move |row| lit::rank(row, black_box(FRAMES), black_box(i)),
+            move |row| proved::rank(row, black_box(FRAMES), black_box(i)),
+        );
+    }
+    lit_case(
+        cases,
+        format!("coarse rank with d {STEP}, all 65,536 frames"),
+        row,
+        |row| lit::rank_coarse(row, black_box(FRAMES), black_box(STEP), black_box(FRAMES)),
+        |row| proved::rank_coarse(row, black_box(FRAMES), black_box(STEP), black_box(FRAMES)),
+    );
+}
+
+/// The last lit frame, one in the middle, and, with a step, the last one whose number is just below a multiple of it.
+fn select_cases(cases: &mut Vec<Case>, row: &[u8]) {
+    let lit = lit::rank(row, FRAMES, FRAMES).expect("the bytes hold the frames");
+    for (which, k) in [("the last lit frame", lit), ("the middle lit frame", lit / 2)] {
+        lit_case(
+            cases,
+            format!("select, {which} of 65,536 frames, half of them lit"),
+            row,
+            move |row| lit::select(row, black_box(FRAMES), black_box(k)),
+            move |row| proved::select(row, black_box(FRAMES), black_box(k)),
+        );
+    }
+    let k = lit / STEP * STEP - 1;
+    lit_case(
+        cases,
+        format!("coarse select with d {STEP}, near the last lit frame of 65,536 frames, half of them lit"),
+        row,
+        move |row| lit::select_coarse(row, black_box(FRAMES), black_box(STEP), black_box(k)),
+        move |row| proved::select_coarse(row, black_box(FRAMES), black_box(STEP), black_box(k)),
+    );
+}
+
+fn lit_cases(cases: &mut Vec<Case>) {
+    let row = Chance::new(22).bytes(FRAMES / 8);
+    rank_cases(cases, &row);
+    select_cases(cases, &row);
+    cases.push(Case {
+        name: "in a byte, 2,560 calls: every byte, k from 0 to 9".to_string(),
+        plain: repeated(|| in_every_byte(lit::in_byte)),
+        proved: repeated(|| in_every_byte(proved::in_byte)),
+    });
+}
+
 pub fn all() -> Vec<Case> {
     let mut cases = Vec::new();
     for (setting, bound, length, tolerance) in SETTINGS {
@@ -503,5 +582,6 @@ pub fn all() -> Vec<Case> {
     let (setting, bound, length, tolerance) = SETTINGS[0];
     zone_cases(&mut cases, setting, bound, length, tolerance);
     picture_cases(&mut cases);
+    lit_cases(&mut cases);
     cases
 }

@@ -53,6 +53,14 @@ pub struct Answer {
     pub value: u64,
 }
 
+/// A number of lit frames or a frame's place, or a refusal with the number 0.
+#[derive(Clone, Copy, Debug, PartialEq, Eq)]
+#[repr(C)]
+pub struct Lit {
+    pub refusal: u8,
+    pub value: usize,
+}
+
 #[derive(Clone, Copy, Debug, Default, PartialEq, Eq)]
 #[repr(C)]
 pub struct Summed {
@@ -198,6 +206,11 @@ extern "C" {
         mask: *const u8,
         masks: usize,
     ) -> Answer;
+    fn uprzezar_rank(frames: *const u8, bytes: usize, length: usize, i: usize) -> Lit;
+    fn uprzezar_select(frames: *const u8, bytes: usize, length: usize, k: usize) -> Lit;
+    fn uprzezar_rank_coarse(frames: *const u8, bytes: usize, length: usize, step: usize, i: usize) -> Lit;
+    fn uprzezar_select_coarse(frames: *const u8, bytes: usize, length: usize, step: usize, k: usize) -> Lit;
+    fn uprzezar_in_byte(byte: u8, k: usize) -> u8;
 }
 
 // A slice is all that the header asks of its callers: a pointer that is not null, aligned, with a length, and no other writer.
@@ -321,4 +334,24 @@ pub fn score(bound: u64, allowance: u8, first: &[u8], second: &[u8]) -> Answer {
 pub fn masked(bound: u64, allowance: u8, first: &[u8], second: &[u8], mask: &[u8]) -> Answer {
     let [(one, ones), (two, twos), (bits, masks)] = [first, second, mask].map(|bytes| (bytes.as_ptr(), bytes.len()));
     unsafe { uprzezar_score_masked(bound, allowance, one, ones, two, twos, bits, masks) }
+}
+
+pub fn rank(frames: &[u8], length: usize, i: usize) -> Lit {
+    unsafe { uprzezar_rank(frames.as_ptr(), frames.len(), length, i) }
+}
+
+pub fn select(frames: &[u8], length: usize, k: usize) -> Lit {
+    unsafe { uprzezar_select(frames.as_ptr(), frames.len(), length, k) }
+}
+
+pub fn rank_coarse(frames: &[u8], length: usize, step: usize, i: usize) -> Lit {
+    unsafe { uprzezar_rank_coarse(frames.as_ptr(), frames.len(), length, step, i) }
+}
+
+pub fn select_coarse(frames: &[u8], length: usize, step: usize, k: usize) -> Lit {
+    unsafe { uprzezar_select_coarse(frames.as_ptr(), frames.len(), length, step, k) }
+}
+
+pub fn in_byte(byte: u8, k: usize) -> u8 {
+    unsafe { uprzezar_in_byte(byte, k) }
 }

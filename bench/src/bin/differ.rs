@@ -1,6 +1,7 @@
 //! Millions of calls, random and adversarial, on both sides; any difference in an answer, a refusal or a lent byte ends the run.
 //!
-//!     differ [ROUNDS]    each round makes one call of each kind (default 1,000,000); at the end all sums of 1 to 130 slots of one bit are made once
+//!     differ [ROUNDS]    each round makes one call of each kind (default 1,000,000); at the end all sums of 1 to 130 slots of one bit, all ranks
+//!                        and places of up to 130 frames, and all places in a byte are made once
 
 use bench::cases::crossed;
 use bench::chance::Chance;
@@ -9,13 +10,13 @@ use bench::plain::book::{Book, Notice, Shape};
 use bench::plain::coarse::Coarser;
 use bench::plain::sums::Summed;
 use bench::plain::zones::{self, ZoneRefused};
-use bench::plain::{image, ring, score, Refusal};
+use bench::plain::{image, lit, ring, score, Refusal};
 use bench::proved;
 
 /// How many calls of a kind came out with which refusal; 0 for none.
 struct Tally {
     name: &'static str,
-    counts: [u64; 22],
+    counts: [u64; 23],
 }
 
 fn alike<T: PartialEq + std::fmt::Debug>(name: &str, side: &str, other: T, proved: T, call: impl Fn() -> String) {
@@ -962,14 +963,103 @@ fn image_calls(chance: &mut Chance, t: &mut [Tally]) {
     same(&mut t[3], p.refusal, p, proved::masked(bound, allowance, &first, &second, &mask), call);
 }
 
+fn lit_number(result: Result<usize, Refusal>) -> proved::Lit {
+    let (refusal, value) = result.map_or_else(|refusal| (refusal as u8, 0), |value| (0, value));
+    proved::Lit { refusal, value }
+}
+
+/// How many frames there are said to be: few for the most part, and at times as many as there may be, or about as many, or one more.
+fn frame_count(chance: &mut Chance) -> usize {
+    if chance.one_in(64) {
+        return if chance.one_in(2) { chance.pick(&[65535, 65536, 65537]) } else { near(chance, 65536) as usize };
+    }
+    let most = chance.pick(&[1, 7, 8, 9, 12, 63, 64, 65, 128, 130, 600]);
+    near(chance, most) as usize
+}
+
+/// Bytes for so many frames: all dark, all lit, nearly so, or of chance; what stands behind the frames in the last byte is of chance too.
+fn frames_lent(chance: &mut Chance, length: usize) -> Vec<u8> {
+    let mut row = lent(chance, length.min(65537).div_ceil(8));
+    let kind = chance.below(8);
+    for byte in &mut row {
+        *byte = match kind {
+            0 => 0,
+            1 => 0xff,
+            2 if !chance.one_in(16) => 0,
+            3 if !chance.one_in(16) => 0xff,
+            _ => *byte,
+        };
+    }
+    if let Some(last) = row.last_mut() {
+        let behind: u8 = if length % 8 == 0 { 0 } else { 0xff >> (length % 8) };
+        *last = *last & !behind | chance.next() as u8 & behind;
+    }
+    row
+}
+
+/// The four calls on a row of frames.
+fn frame_calls(t: &mut [Tally], row: &[u8], length: usize, step: usize, i: usize, k: usize) {
+    let call = || format!("length {length}, step {step}, i {i}, k {k}, bytes {row:02x?}");
+    let (p, rank) = (lit_number(lit::rank(row, length, i)), proved::rank(row, length, i));
+    same(&mut t[0], p.refusal, p, rank, call);
+    let (p, place) = (lit_number(lit::select(row, length, k)), proved::select(row, length, k));
+    same(&mut t[1], p.refusal, p, place, call);
+    let p = lit_number(lit::rank_coarse(row, length, step, i));
+    same(&mut t[2], p.refusal, p, proved::rank_coarse(row, length, step, i), call);
+    let p = lit_number(lit::select_coarse(row, length, step, k));
+    same(&mut t[3], p.refusal, p, proved::select_coarse(row, length, step, k), call);
+
+    if place.refusal == 0 {
+        alike(t[1].name, "the rank of the place", proved::rank(row, length, place.value), proved::Lit { refusal: 0, value: k }, call);
+    }
+    alike(t[2].name, "with step 1", proved::rank_coarse(row, length, 1, i), rank, call);
+    alike(t[3].name, "with step 1", proved::select_coarse(row, length, 1, k), place, call);
+}
+
+fn lit_calls(chance: &mut Chance, t: &mut [Tally]) {
+    let length = frame_count(chance);
+    let row = frames_lent(chance, length);
+    let lit = lit::rank(&row, length, length).unwrap_or(10) as u64;
+    let most = if chance.one_in(2) { 8 } else { lit };
+    let [step, i, k] = [most, length as u64, lit].map(|limit| near(chance, limit) as usize);
+    frame_calls(t, &row, length, step, i, k);
+    let (byte, k) = (chance.next() as u8, near(chance, 8) as usize);
+    same(&mut t[4], 0, lit::in_byte(byte, k), proved::in_byte(byte, k), || format!("byte {byte:02x}, k {k}"));
+}
+
+/// 0 to 130 frames, all lit and of chance, in as many bytes as they take and in more: every rank and every place.
+fn few_frames(chance: &mut Chance, t: &mut [Tally]) {
+    for length in 0..=130_usize {
+        let bytes = length.div_ceil(8);
+        for lent in [bytes, bytes + 1 + chance.below(9) as usize] {
+            for row in [vec![0xff; lent], chance.bytes(lent)] {
+                let step = 1 + chance.below(12) as usize;
+                for asked in 0..=length + 1 {
+                    frame_calls(t, &row, length, step, asked, asked);
+                }
+            }
+        }
+    }
+}
+
+/// Every byte, with every k that has a place and some that have none.
+fn every_byte(t: &mut Tally) {
+    for byte in 0..=255 {
+        for k in (0..=10).chain([255, 256, 257, 65537, (1 << 32) + 1, usize::MAX]) {
+            same(t, 0, lit::in_byte(byte, k), proved::in_byte(byte, k), || format!("byte {byte:02x}, k {k}"));
+        }
+    }
+}
+
 fn main() {
     let rounds: u64 = std::env::args().nth(1).map_or(1_000_000, |n| n.parse().expect("a number of rounds"));
     let names = [
         "ring_clear", "ring_read", "ring_write", "ring_sum", "shape", "open", "add", "total", "far", "verdict", "rest", "wake", "run",
         "header", "raster", "score", "masked", "open_row", "add_row", "total_row", "run_row",
         "trend", "coarsen", "coarsen_row", "zones_add", "zone_add", "salvage", "salvage_row",
+        "rank", "select", "rank_coarse", "select_coarse", "in_byte",
     ];
-    let mut tallies = names.map(|name| Tally { name, counts: [0; 22] });
+    let mut tallies = names.map(|name| Tally { name, counts: [0; 23] });
     let mut chance = Chance::new(2026);
     for _ in 0..rounds {
         slots_call(&mut chance, &mut tallies[0..4]);
@@ -985,13 +1075,16 @@ fn main() {
         coarsen_calls(&mut chance, &mut tallies[22..24]);
         zone_calls(&mut chance, &mut tallies[24..26]);
         salvage_calls(&mut chance, &mut tallies[26..28]);
+        lit_calls(&mut chance, &mut tallies[28..33]);
     }
     one_bit_sums(&mut chance, &mut tallies[3]);
+    few_frames(&mut chance, &mut tallies[28..32]);
+    every_byte(&mut tallies[32]);
     let calls: u64 = tallies.iter().flat_map(|tally| tally.counts).sum();
     println!("{calls} calls on both sides, no difference; how many with which refusal:");
     for tally in &tallies {
         let counts = tally.counts.iter().enumerate().filter(|(_, &n)| n > 0);
         let counts: Vec<String> = counts.map(|(refusal, n)| format!("{refusal}: {n}")).collect();
-        println!("{:11}  {}", tally.name, counts.join(", "));
+        println!("{:13}  {}", tally.name, counts.join(", "));
     }
 }

@@ -3,6 +3,7 @@
 pub mod book;
 pub mod coarse;
 pub mod image;
+pub mod lit;
 pub mod program;
 pub mod ring;
 pub mod salvage;
@@ -36,4 +37,5 @@ pub enum Refusal {
     CannotCoarsen = 19,
     BadZones = 20,
     NumbersTooShort = 21,
+    BadLitCall = 22,
 }

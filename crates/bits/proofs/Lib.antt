@@ -6,4 +6,7 @@ pub mod Replaced
 pub mod Through
 pub mod BitOfByte
 pub mod Zeros
+pub mod DigitsOfByte
+pub mod OnesOfRow
+pub mod OnesOfPart
 pub mod Promises

@@ -3,6 +3,8 @@
 
 -- of two numbers one is the lower or they are the same
 pub use Rattle.bits.proofs.Parts.{le-or-lt}
+-- a byte has eight bits
+pub use Rattle.bits.proofs.Rows.{length-bits}
 -- A PART OF A ROW. A part of n bits writes a number below 2^n
 pub use Rattle.bits.proofs.Replaced.{part-lt}
 -- a part in which a value is put reads back
@@ -45,3 +47,15 @@ pub use Rattle.bits.proofs.Through.{read-word}
 pub use Rattle.bits.proofs.Through.{write-word}
 -- BITS. A bit of a row is a digit of the byte that it stands in, the top one first
 pub use Rattle.bits.proofs.BitOfByte.{bit-of-byte}
+-- the bits of a byte are its digits, and these one by one
+pub use Rattle.bits.proofs.DigitsOfByte.{bits-of-byte, digits-of-byte}
+-- ONES. No bits have no ones
+pub use Rattle.bits.proofs.OnesOfRow.{ones-none}
+-- a bit that is 0 adds none, one that is not 0 adds one
+pub use Rattle.bits.proofs.OnesOfRow.{ones-dark, ones-lit}
+-- two rows one behind the other have the ones of both
+pub use Rattle.bits.proofs.OnesOfRow.{ones-append}
+-- there are no more ones than bits
+pub use Rattle.bits.proofs.OnesOfRow.{ones-le}
+-- the number that a part writes has as many ones as the part has
+pub use Rattle.bits.proofs.OnesOfPart.{ones-of-part}

@@ -85,6 +85,11 @@ badZones = 20
 abbrev pub numbersTooShort : ℕ
 numbersTooShort = 21
 
--- 23: a buffer for a line has fewer than 96 bytes (22 is kept for a request)
+-- 22: a call on lit frames with a number out of its range: a length above 65,536 or above the bits of the slice, an i above the length,
+-- a step of 0, or a k of 0 or above the number of lit frames
+abbrev pub badLitCall : ℕ
+badLitCall = 22
+
+-- 23: a buffer for a line has fewer than 96 bytes
 abbrev pub bufferTooShort : ℕ
 bufferTooShort = 23

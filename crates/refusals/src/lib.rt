@@ -42,5 +42,7 @@ pub const BAD_ZONES: u8 = 20;
 
 pub const NUMBERS_TOO_SHORT: u8 = 21;
 
-// 23: a buffer for a line has fewer than 96 bytes (22 is kept for a request).
+pub const BAD_LIT_CALL: u8 = 22;
+
+// 23: a buffer for a line has fewer than 96 bytes.
 pub const BUFFER_TOO_SHORT: u8 = 23;

@@ -1,7 +1,7 @@
 -- Demand 1 and uniqueness of each exported call. Where the statement is that of the call behind it, so are its theorems: `ring-calls`,
--- `book-calls`, `sums-calls`, `trend-calls`, `coarse-calls`, `salvage-calls`, `zones-calls`, `image-calls` and `score-calls` say which row it is.
--- `Post` is the statement itself, as it stands at the function; the two calls for zones have none, and their statements are compared with what is
--- promised.
+-- `book-calls`, `sums-calls`, `trend-calls`, `coarse-calls`, `salvage-calls`, `zones-calls`, `image-calls`, `score-calls` and `lit-calls` say which
+-- row it is. The look into a byte refuses nothing, and has no row: of it uniqueness is all. `Post` is the statement itself, as it stands at the
+-- function; the two calls for zones have none, and their statements are compared with what is promised.
 -- Assumes nothing.
 use Prim.Native.Nat.{ℕ}
 use mathlib.Core.List.{List}
@@ -18,7 +18,7 @@ use denote.Ref.{now}
 use denote.Triple.Entry.{Args, Res}
 use denote.Triple.Clauses.{AtExit}
 use Rattle.refusals.specs.Call.{seenAs}
-use Rattle.refusals.specs.Demand1.{Promised}
+use Rattle.refusals.specs.Demand1.{Settles, Promised}
 use Rattle.refusals.proofs.Calls.{seen-promised}
 use Rattle.ring.specs.Calls.{clearCall, readCall, writeCall, sumCall}
 use Rattle.ring.specs.declared.Answer.{Answer}
@@ -53,6 +53,9 @@ use Rattle.score.specs.Calls.{scoreCall}
 use Rattle.score.specs.Masked.{maskedCall}
 use Rattle.score.specs.declared.Answer as score-answer
 use Rattle.score.proofs.Demand1 as score-calls
+use Rattle.lit.specs.declared.Answer as lit-answer
+use Rattle.lit.specs.Calls.{rankCall, selectCall, coarseRankCall, coarseSelectCall}
+use Rattle.lit.proofs.Demand1 as lit-calls
 use Rattle.uprzezar.specs.Crossing.{asNumbers, placeIn}
 use Rattle.uprzezar.specs.declared.Ruled.{Ruled}
 use Rattle.uprzezar.specs.declared.Raster.{Raster}
@@ -84,6 +87,11 @@ use Rattle.uprzezar.proofs.of_images.uprzezar_header.Reads as header-re
 use Rattle.uprzezar.proofs.of_images.uprzezar_raster.Reads as raster-reads
 use Rattle.uprzezar.proofs.of_images.uprzezar_score.Reads as score-reads
 use Rattle.uprzezar.proofs.of_images.uprzezar_score_masked.Reads as masked-reads
+use Rattle.uprzezar.proofs.of_lit.uprzezar_rank.Reads as rank-reads
+use Rattle.uprzezar.proofs.of_lit.uprzezar_select.Reads as select-reads
+use Rattle.uprzezar.proofs.of_lit.uprzezar_rank_coarse.Reads as rank-coarse-reads
+use Rattle.uprzezar.proofs.of_lit.uprzezar_select_coarse.Reads as select-coarse-reads
+use Rattle.uprzezar.proofs.of_lit.uprzezar_in_byte.Reads as in-byte-reads
 
 -- THE RING. In `a` stand the arguments in their order, in `e` the same as the call returns
 module _ (κs : Lfts 1) where
@@ -242,3 +250,26 @@ module _ (κs : Lfts 3) where
       (λ a. maskedCall (a .0) (a .1 .0) (now (a .1 .1 .0)) (now (a .1 .1 .1 .0)) (now (a .1 .1 .1 .1 .0)))
       (λ (r : score-answer.Answer). r .refusal)
   masked-promised = score-calls.masked-promised κs
+
+-- LIT FRAMES. The row of frames is lent to be read alone …
+module _ (κs : Lfts 1) where
+  pub rank-promised : Promised (rank-reads.Post κs) (λ r. r) (λ a e. now (a .0))
+      (λ a. rankCall (now (a .0)) (a .1 .0) (a .1 .1 .0)) (λ (r : lit-answer.Answer). r .refusal)
+  rank-promised = lit-calls.rank-promised κs
+
+  pub select-promised : Promised (select-reads.Post κs) (λ r. r) (λ a e. now (a .0))
+      (λ a. selectCall (now (a .0)) (a .1 .0) (a .1 .1 .0)) (λ (r : lit-answer.Answer). r .refusal)
+  select-promised = lit-calls.select-promised κs
+
+  pub rank-coarse-promised : Promised (rank-coarse-reads.Post κs) (λ r. r) (λ a e. now (a .0))
+      (λ a. coarseRankCall (now (a .0)) (a .1 .0) (a .1 .1 .0) (a .1 .1 .1 .0)) (λ (r : lit-answer.Answer). r .refusal)
+  rank-coarse-promised = lit-calls.rank-coarse-promised κs
+
+  pub select-coarse-promised : Promised (select-coarse-reads.Post κs) (λ r. r) (λ a e. now (a .0))
+      (λ a. coarseSelectCall (now (a .0)) (a .1 .0) (a .1 .1 .0) (a .1 .1 .1 .0)) (λ (r : lit-answer.Answer). r .refusal)
+  select-coarse-promised = lit-calls.select-coarse-promised κs
+
+-- … and for the look into a byte, which refuses nothing, nothing is lent
+module _ (κs : Lfts 0) where
+  pub in-byte-settled : Settles {Lent = Unit {0}} (in-byte-reads.Post κs) (λ r. r) (λ a e. tt)
+  in-byte-settled = lit-calls.in-byte-settled κs

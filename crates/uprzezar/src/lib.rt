@@ -1,10 +1,11 @@
-// The public calls of ring, book, sums, trend, coarse, salvage, zones, image and score for programs in C: the archive of `rt staticlib uprzezar`, the
-// header include/uprzezar.h. Not among them are book::two_totals, image::mask_header and image::pair_value. Each function hands its arguments on and
-// promises what the call behind it promises; a verdict crosses as numbers, and a raster as its place.
+// The public calls of ring, book, sums, trend, coarse, salvage, zones, image, score and lit for programs in C: the archive of
+// `rt staticlib uprzezar`, the header include/uprzezar.h. Not among them are book::two_totals, image::mask_header and image::pair_value. Each
+// function hands its arguments on and promises what the call behind it promises; a verdict crosses as numbers, and a raster as its place.
 mod crossing;
 mod of_book;
 mod of_coarse;
 mod of_images;
+mod of_lit;
 mod of_ring;
 mod of_salvage;
 mod of_sums;

@@ -1,14 +1,11 @@
 // The calls on images. Each gives how many bytes its answer has, 0 if the line cannot be read.
 use crate::fields::calls;
 use crate::fields::same;
+use crate::reading::byte_in;
 use crate::reading::bytes_in;
 use crate::reading::number_in;
 use crate::text;
 use score::Answer;
-
-fn next(out: &mut [u8], at: usize, n: usize) -> usize {
-    text::next(out, at, n as u64)
-}
 
 // Whether the raster has the very bytes that stand between two places.
 fn stands(raster: &[u8], s: &[u8], from: usize, end: usize) -> bool {
@@ -29,12 +26,12 @@ fn numbers(s: &[u8], out: &mut [u8]) -> usize {
         return 0;
     }
     let zero = text::refusal(out, r.refusal);
-    let one = next(out, zero, r.width);
-    let two = next(out, one, r.height);
-    let three = next(out, two, r.maxval);
-    let four = next(out, three, r.used);
-    let five = next(out, four, r.start);
-    next(out, five, raster.len())
+    let one = text::size(out, zero, r.width);
+    let two = text::size(out, one, r.height);
+    let three = text::size(out, two, r.maxval);
+    let four = text::size(out, three, r.used);
+    let five = text::size(out, four, r.start);
+    text::size(out, five, raster.len())
 }
 
 // The refusal and the score.
@@ -88,17 +85,20 @@ fn pgm(line: &[u8], slice: &mut [u8], out: &mut [u8]) -> usize {
 // A score, with a mask or without. The allowance is a byte: a line with a larger number cannot be read.
 fn score_of(line: &[u8], first: &mut [u8], second: &mut [u8], out: &mut [u8]) -> usize {
     let bound = number_in(line, 1);
-    let allowance = number_in(line, 2);
+    let allowance = byte_in(line, 2);
     let one = bytes_in(line, 3, first);
     let two = bytes_in(line, 4, second);
     let m = one.size;
     let n = two.size;
-    let a = allowance.value;
-    if a > 255 {
-        return 0;
-    }
     if bound.ok && allowance.ok && one.ok && two.ok {
-        return compared(line, bound.value, a as u8, &first[..m], &second[..n], out);
+        return compared(
+            line,
+            bound.value,
+            allowance.value,
+            &first[..m],
+            &second[..n],
+            out,
+        );
     }
     0
 }

@@ -3,6 +3,7 @@ use crate::books;
 use crate::coarser;
 use crate::fields::place;
 use crate::images;
+use crate::lit_frames;
 use crate::rings;
 use crate::row_books;
 use crate::salvages;
@@ -52,6 +53,10 @@ fn known(line: &[u8], first: &mut [u8], second: &mut [u8], out: &mut [u8]) -> us
     let salvaged = salvages::answer(line, first, out);
     if salvaged != 0 {
         return salvaged;
+    }
+    let of_frames = lit_frames::answer(line, first, out);
+    if of_frames != 0 {
+        return of_frames;
     }
     images::answer(line, first, second, out)
 }

@@ -6,6 +6,7 @@ mod fields;
 mod images;
 mod input;
 mod lent_zones;
+mod lit_frames;
 mod reading;
 mod rings;
 mod row_books;

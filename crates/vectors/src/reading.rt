@@ -15,6 +15,12 @@ pub(crate) struct Parsed {
     pub value: u64,
 }
 
+// A byte, if the text is a number below 256.
+pub(crate) struct ParsedByte {
+    pub ok: bool,
+    pub value: u8,
+}
+
 // How many bytes, or numbers of a row, were read, if the text is such that fit.
 pub(crate) struct Size {
     pub ok: bool,
@@ -98,6 +104,22 @@ pub(crate) fn number_or_0(line: &[u8], at: usize) -> Parsed {
         return Parsed { ok: true, value: 0 };
     }
     number_in(line, at)
+}
+
+// The byte in a field of the line, as a number: a larger one is none.
+pub(crate) fn byte_in(line: &[u8], at: usize) -> ParsedByte {
+    let n = number_in(line, at);
+    let value = n.value;
+    if value > 255 {
+        return ParsedByte {
+            ok: false,
+            value: 0,
+        };
+    }
+    ParsedByte {
+        ok: n.ok,
+        value: value as u8,
+    }
 }
 
 // The record `L,n,D,R,p,kept,head,mark`.

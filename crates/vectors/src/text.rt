@@ -58,6 +58,11 @@ pub(crate) fn next(out: &mut [u8], at: usize, n: u64) -> usize {
     decimal(out, behind, n)
 }
 
+// A number of the machine's own size behind a space.
+pub(crate) fn size(out: &mut [u8], at: usize, n: usize) -> usize {
+    next(out, at, n as u64)
+}
+
 // How far a number is from 0. One below 0 is counted from -1 on, since the least one has no counterpart above 0.
 fn magnitude(n: i64) -> u64 {
     if n < 0 {

@@ -1,0 +1,15 @@
+pub mod Ranks
+pub mod Places
+pub mod Selects
+pub mod RankAndSelect
+pub mod CoarseKeepsToRule
+pub mod Judged
+pub mod CountingOnes
+pub mod Searching
+pub mod TableOfPlaces
+pub mod Asked
+pub mod CallsUndo
+pub mod CoarseCalls
+pub mod OnlyFramesCount
+pub mod Demand1
+pub mod Promises

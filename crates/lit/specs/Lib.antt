@@ -1,0 +1,9 @@
+pub mod Limits
+pub mod Frames
+pub mod Held
+pub mod RankSelect
+pub mod Coarse
+pub mod InByte
+pub mod Calls
+pub mod Rules
+pub mod Search
