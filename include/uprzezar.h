@@ -79,6 +79,13 @@ enum {
     UPRZEZAR_RESTING = 4    /* the book rests: nothing is claimed of the amount */
 };
 
+/* The pictures of the page. */
+enum {
+    UPRZEZAR_NO_PICTURE = 0, /* the call is refused */
+    UPRZEZAR_NEWEST = 1,     /* the verdict is UPRZEZAR_LIVE */
+    UPRZEZAR_OLDER = 2       /* the verdict is any other */
+};
+
 /* What follows from a book's bound, length and tolerance. */
 typedef struct {
     uint64_t block;   /* items a block: max(1, tolerance / bound) */
@@ -200,6 +207,23 @@ typedef struct {
     size_t length;
 } uprzezar_raster_place;
 
+/* The ticks of the page's two pictures, and the tick now. */
+typedef struct {
+    uint32_t newest;
+    uint32_t older;
+    uint32_t present;
+} uprzezar_ticks;
+
+/* The picture that the page shows: which one, where its raster starts in its own bytes and how many they are, and its age in ticks; all four
+   are 0 at a refusal. */
+typedef struct {
+    uint8_t refusal;
+    uint8_t picture;
+    size_t offset;
+    size_t length;
+    uint32_t age;
+} uprzezar_shown;
+
 /* The layouts that the archive was built with. */
 #if defined(__cplusplus) && __cplusplus >= 201103L
 #define UPRZEZAR_ASSERT(holds, says) static_assert(holds, says)
@@ -241,6 +265,11 @@ UPRZEZAR_ASSERT(offsetof(uprzezar_numbers, height) == 16 && offsetof(uprzezar_nu
 UPRZEZAR_ASSERT(offsetof(uprzezar_numbers, start) == 32 && offsetof(uprzezar_numbers, used) == 40, "numbers");
 UPRZEZAR_ASSERT(sizeof(uprzezar_raster_place) == 24 && offsetof(uprzezar_raster_place, offset) == 8, "raster place");
 UPRZEZAR_ASSERT(offsetof(uprzezar_raster_place, length) == 16, "raster place");
+UPRZEZAR_ASSERT(sizeof(uprzezar_ticks) == 12 && offsetof(uprzezar_ticks, older) == 4, "ticks");
+UPRZEZAR_ASSERT(offsetof(uprzezar_ticks, present) == 8, "ticks");
+UPRZEZAR_ASSERT(sizeof(uprzezar_shown) == 32 && offsetof(uprzezar_shown, picture) == 1, "shown");
+UPRZEZAR_ASSERT(offsetof(uprzezar_shown, offset) == 8 && offsetof(uprzezar_shown, length) == 16, "shown");
+UPRZEZAR_ASSERT(offsetof(uprzezar_shown, age) == 24, "shown");
 
 /* No book's ring takes more bytes. */
 #define UPRZEZAR_RING_MOST 8192
@@ -479,6 +508,25 @@ uprzezar_lit uprzezar_select_coarse(const uint8_t *frames, size_t frame_bytes, s
 
 /* The place, 1 to 8, of the k-th one in a byte, the top bit first; 0 where there is none, and where `k` is not 1 to 8. Never refused. */
 uint8_t uprzezar_in_byte(uint8_t byte, size_t k);
+
+/* The page: which of two pictures to show, and how old it is.
+
+   Lend the newest image and an older one, the last that was known to move, each with the tick at which it was taken. Where the verdict of
+   uprzezar_verdict for this window and amount is UPRZEZAR_LIVE, the newest is shown; where it is frozen, undecided or resting, the older one.
+   So the newest is shown, of a book from a good start (the latest record, a ring changed by nothing else), only where the window truly
+   holds the amount. Whether the older image ever moved, which tick comes first, and whether the images are of one size is not asked. They may
+   lie in the same bytes.
+
+   A tick is read off a counter of 32 bits that goes on with 0 after its largest value. The age is `present`, the tick now, less the tick of the
+   picture that is shown, and 2^32 more where that would be below 0. It is the true age, also where the counter has gone on with 0 since, of a
+   picture that is less than a full turn of the counter old, 2^32 ticks. One that is a full turn old or more seems younger, by whole turns, and
+   one whose tick is still to come has an age too: two ticks cannot tell. */
+
+/* The picture to show. BOTH images are judged, whichever is shown: a damaged one is a refusal even where the other is shown, and which of the
+   two a number is for is not told. Refusals: those of uprzezar_verdict (8, 4, 6, 5), those of uprzezar_header for the newest image, those for
+   the older one. */
+uprzezar_shown uprzezar_show(uprzezar_book book, const uint8_t *ring, size_t ring_bytes, uint64_t window, uint64_t amount,
+                             const uint8_t *newest, size_t newest_bytes, const uint8_t *older, size_t older_bytes, uprzezar_ticks ticks);
 
 /* The ring alone: `slots` numbers of `width` bits, one after another from the top bit of byte 0. */
 

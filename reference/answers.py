@@ -1,11 +1,13 @@
 """A line of the vectors' format and its answer: what a call's arguments are read from, and how what it gives is written.
 
-Every call of model.py, row_model.py, coarse_model.py, zone_model.py, salvage_model.py and lit_model.py has its name here, and what it takes.
+Every call of model.py, row_model.py, coarse_model.py, zone_model.py, salvage_model.py, lit_model.py and page_model.py has its name here, and what
+it takes.
 """
 
 import coarse_model
 import lit_model
 import model
+import page_model
 import row_model
 import salvage_model
 import zone_model
@@ -37,6 +39,14 @@ def take_byte(text):
     """A score's allowance is a byte, and so is what is looked into: no refusal is for a larger one, so the line cannot be read."""
     value = take_number(text)
     if value > 255:
+        raise Unreadable
+    return value
+
+
+def take_tick(text):
+    """A tick is of 32 bits: no refusal is for a larger number, so the line cannot be read."""
+    value = take_number(text)
+    if value >= page_model.TURN:
         raise Unreadable
     return value
 
@@ -97,7 +107,7 @@ def show(value):
     return str(value)
 
 
-N, Y, A, R, Z, C, S = take_number, take_bytes, take_byte, take_record, take_records, take_counts, take_sums
+N, Y, A, T, R, Z, C, S = take_number, take_bytes, take_byte, take_tick, take_record, take_records, take_counts, take_sums
 
 CALLS = {
     "ring_clear": (model.ring_clear, (N, N, Y)),
@@ -132,6 +142,7 @@ CALLS = {
     "pgm": (model.pgm, (Y,)),
     "score": (model.score, (N, A, Y, Y)),
     "score_mask": (model.score_mask, (N, A, Y, Y, Y)),
+    "show": (page_model.show, (R, Y, N, N, Y, T, Y, T, T)),
     "shape": (model.shape, (N, N, N)),
 }
 

@@ -4,8 +4,8 @@
     python3 reference/make_vectors.py            writes both files, the same ones each time
     python3 reference/make_vectors.py --check    says whether they are the ones that stand there
 
-The answers come from model.py, row_model.py, coarse_model.py, zone_model.py, salvage_model.py and lit_model.py, which are written to docs/SCOPE.md
-alone and are first held to the figures of worked.py.
+The answers come from model.py, row_model.py, coarse_model.py, zone_model.py, salvage_model.py, lit_model.py and page_model.py, which are written to
+docs/SCOPE.md alone and are first held to the figures of worked.py.
 The calls stand in sections, each begun by a line `# NAME`; docs/PROMISES.md names them.
 It takes Python 3.9 or later, and no package.
 """
@@ -26,6 +26,9 @@ import lit_refusal_calls
 import mask_calls
 import mask_header_calls
 import other_lines
+import page_calls
+import page_faults
+import page_refusal_calls
 import paper_cases
 import rest_calls
 import ring_calls
@@ -58,7 +61,8 @@ def sections():
     salvaged = (salvage_calls, salvage_row_calls)
     of_lit_frames = (lit_calls, lit_refusal_calls)
     of_images = (image_calls, comment_calls, two_byte_calls, score_calls, mask_calls, mask_header_calls)
-    for part in (*of_books, *coarser, *of_zones, *salvaged, *of_lit_frames, *of_images, other_lines):
+    of_the_page = (page_calls, page_refusal_calls)
+    for part in (*of_books, *coarser, *of_zones, *salvaged, *of_lit_frames, *of_images, *of_the_page, other_lines):
         yield from part.sections()
 
 
@@ -73,6 +77,7 @@ def main():
     calls = list(lines())
     faults = [*worked.faults(), *run_calls.faults(), *row_faults.faults(), *trend_books.faults(), *mask_calls.faults()]
     faults += [*coarse_faults.faults(calls), *zone_faults.faults(calls), *salvage_faults.faults(calls), *lit_faults.faults(calls)]
+    faults += page_faults.faults(calls)
     faults += [f"no section is named {name}" for name in worked.FIGURES.keys() - dict(sections()).keys()]
     if faults:
         sys.exit("\n".join(faults))

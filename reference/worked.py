@@ -1,5 +1,6 @@
 """Figures worked by hand, as calls and answers: the cases A to G of docs/SCOPE.md, slots of one bit, books at rest, books with a row of sums,
-trends, coarser books, zones, salvaged rings, lit frames, comments in headers, pixels of two bytes, masks, and the lines of the vectors' format.
+trends, coarser books, zones, salvaged rings, lit frames, comments in headers, pixels of two bytes, masks, what the page shows, and the lines of the
+vectors' format.
 
 The model is held to them each time the vectors are made. They stand first in the section of their name.
 """
@@ -24,6 +25,11 @@ TWELVE, ALL_LIT = "2c9f 12", f"{'ff' * 8192} 65536"
 # The program's first two images, with comments of different places and lengths.
 DARK = b"P5 #c\n2 2 255\n" + bytes(4)
 LIT = b"P5# a longer one\r 2 2 255#\n\n" + bytes([20, 12, 13, 0])
+# What the page has at hand: two images, and the first of them without its last byte, the second with a pixel of 16, where maxval is 15.
+NEWEST, OLDER = b"P5 2 2 255 \x01\x02\x03\x04", b"P5 3 1 15 \x0f\x00\x07"
+CUT, BRIGHT = NEWEST[:-1], b"P5 3 1 15 \x10\x00\x07"
+# The largest tick.
+LAST = 2**32 - 1
 
 
 def pgm(*images):
@@ -42,6 +48,13 @@ def score_mask(width, height, masks, a=12, pixels=b"\xff"):
     first, second = header + bytes(count), header + (pixels * count)[:count]
     shown = ((data, f"{answer} 0" if isinstance(answer, int) else answer) for data, answer in masks)
     return [(f"score_mask 600 {a} {first.hex()} {second.hex()} {answers.show(data)}", answer) for data, answer in shown]
+
+
+def page(asked, answer, newest=NEWEST, older=OLDER, ticks=(4294967290, 4294967000, 3), book=A):
+    """What is asked of the page, with the answer; of a refused call the number alone is given."""
+    newest_tick, older_tick, now = ticks
+    line = f"show {book} {asked} {answers.show(newest)} {newest_tick} {answers.show(older)} {older_tick} {now}"
+    return line, f"{answer} none 0 0 0" if isinstance(answer, int) else answer
 
 
 FIGURES = {
@@ -647,6 +660,70 @@ FIGURES = {
     "masks: comments": score_mask(
         10, 1, [(b"P4 1#c\n0 1 \0\0", "0 10"), (b"P4 10 1#c\n\0\0", 11), (b"P4 10 1#c\r\n\0\0", "0 10"), (b"P4 10 1 ##", "0 7"), (b"P4 #", 14)]
     ),
+    # The example of docs/SCOPE.md.
+    "page: the example": [
+        page("4 9", "0 newest 11 4 9"),
+        page("4 10", "0 older 10 3 299"),
+        page("4 19", "0 older 10 3 299"),
+        page("4 9", "0 older 10 3 299", book=A_AT_REST),
+        page("4 9", "0 newest 11 4 0", ticks=(4294967290, 4294967000, 4294967290)),
+        page("4 9", "0 newest 11 4 4294967295", ticks=(4294967290, 4294967000, 4294967289)),
+        page("4 0", 6),
+        page("7 9", 5),
+        *(page(asked, 14, newest=CUT) for asked in ("4 9", "4 19")),
+        *(page(asked, 15, older=BRIGHT) for asked in ("4 9", "4 19")),
+        *(page(asked, 14, newest=CUT, older=BRIGHT) for asked in ("4 9", "4 19")),
+        page("7 9", 5, newest=CUT, older=BRIGHT),
+    ],
+    # Window 5 of case A has 14, and window 1 of case C 2, with a tolerance of 1, so that nothing is undecided there.
+    "page: where the verdict turns": [
+        *(page(f"5 {v}", "0 newest 11 4 9") for v in (13, 14)),
+        *(page(f"5 {v}", "0 older 10 3 299") for v in (15, 23, 24)),
+        page("1 2", "0 newest 11 4 9", book="9,3,1,0,0,3,1,0 2040"),
+        page("1 3", "0 older 10 3 299", book="9,3,1,0,0,3,1,0 2040"),
+    ],
+    "page: marks": [page("4 9", "0 older 10 3 299", book=f"5,6,10,13,1,6,0,{mark} 40") for mark in (2, 256, 2**32, 2**64 - 1)],
+    # Picture, now and age; the other picture's tick is 77. Once around the counter makes 4,294,967,296 steps.
+    "page: ticks at the ends": [
+        figure
+        for tick, now, age in [(0, 0, 0), (0, LAST, LAST), (LAST, 0, 1), (LAST, LAST, 0), (1, 0, LAST), (2**31, 0, 2**31)]
+        for figure in (page("4 9", f"0 newest 11 4 {age}", ticks=(tick, 77, now)), page("4 19", f"0 older 10 3 {age}", ticks=(77, tick, now)))
+    ],
+    # Pixels of two bytes; comments of 9 bytes before the width, of 3 behind the height and of 2 behind maxval; zeros in front. Each image with the
+    # other one behind it, and in the other one's place.
+    "page: images of every kind": [
+        page("4 9", "0 newest 11 4 9", newest=b"P5 2 1 256 \x01\x00\x00\xff"),
+        page("4 10", "0 older 24 3 299", older=b"P5 #made by\n3 1#c\r 15#\r\n\x0f\x00\x07"),
+        page("4 10", "0 older 21 4 299", older=b"P5 0001 002 00065535 \x01\x02\x03\x04"),
+        page("4 9", "0 newest 11 4 9", newest=NEWEST + OLDER),
+        page("4 10", "0 older 10 3 299", older=OLDER + NEWEST),
+        page("4 9", "0 newest 10 3 9", newest=OLDER),
+        page("4 19", "0 older 11 4 299", older=NEWEST),
+    ],
+    "page: empty slices": [
+        *(page(asked, 14, newest=b"") for asked in ("4 9", "4 19")),
+        *(page(asked, 14, older=b"") for asked in ("4 9", "4 19")),
+        page("4 9", 4, newest=b"", older=b"", book="5,6,10,13,1,6,0,0 -"),
+    ],
+    # One fault less each time.
+    "page: the order of refusals": [
+        page("7 0", 8, newest=BRIGHT, older=CUT, book="5,6,10,15,1,6,0,0 -"),
+        page("7 0", 4, newest=BRIGHT, older=CUT, book="5,6,10,13,1,6,0,0 -"),
+        *(page(asked, 6, newest=BRIGHT, older=CUT) for asked in ("7 0", "0 9")),
+        page("7 9", 5, newest=BRIGHT, older=CUT),
+        *(page(asked, 15, newest=BRIGHT, older=CUT) for asked in ("6 9", "6 99")),
+        *(page(asked, 14, older=CUT) for asked in ("6 9", "6 99")),
+    ],
+    # Each tick as large as it can be, and one larger, also where the call would be refused; nine words and eleven.
+    "page: lines that cannot be read, and some that just can": [
+        page("4 9", "0 newest 11 4 4294967292", ticks=(LAST, LAST, LAST - 4)),
+        *(page("4 9", "?", ticks=ticks) for ticks in ((2**32, 0, 3), (0, 2**32, 3), (0, 0, 2**32), (0, 0, 2**64), (0, 0, "-"), (0, 0, ""))),
+        *(page("4 9", "?", ticks=(0, 0, now)) for now in ("3 3", "-1", "3 ")),
+        page("7 0", "?", ticks=(0, 0, 2**32)),
+        page("4", "?"),
+        page("4 9 9", "?"),
+        page("4 9", "0 newest 11 4 9", ticks=("004294967290", "00", "03")),
+    ],
     # The numbers of cases A to D and of the program's setting, all five of each.
     "shapes": [
         ("shape 5 6 10", "0 2 3 1 1 1"),

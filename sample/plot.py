@@ -291,4 +291,5 @@ def main():
     sys.stdout.write(Picture(rows).drawn())
 
 
-main()
+if __name__ == "__main__":
+    main()

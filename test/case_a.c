@@ -1,7 +1,7 @@
 /* Case A of docs/SCOPE.md, through the header, item by item and as one run, its book at rest, its trends, its book with a row and made
    coarser, larger books with a row and made coarser, scrambled rings that are salvaged, its book and another as two zones, 96 zones, the small
    pictures of its program, pictures of two bytes a pixel, headers with comments, and pictures under masks; twelve frames that are lit or dark,
-   and up to 65,536; the shapes of its book and of the box's. */
+   and up to 65,536; the page's choice of two pictures by its book; the shapes of its book and of the box's. */
 #include "../include/uprzezar.h"
 
 #include <inttypes.h>
@@ -1094,6 +1094,83 @@ static void lit_frames(void) {
     in_byte(0xff);
 }
 
+/* The page's two images and its three ticks. */
+typedef struct {
+    const uint8_t *newest;
+    size_t newest_bytes;
+    const uint8_t *older;
+    size_t older_bytes;
+    uprzezar_ticks ticks;
+} two_pictures;
+
+/* The picture that is shown, and the bytes of its raster. */
+static void show(uprzezar_book b, size_t ring_bytes, uint64_t window, uint64_t amount, const two_pictures *p) {
+    static const char *const words[] = {"none", "newest", "older"};
+    static const uint8_t ring[] = {0x40};
+    uprzezar_shown s = uprzezar_show(b, ring, ring_bytes, window, amount, p->newest, p->newest_bytes, p->older, p->older_bytes, p->ticks);
+    const uint8_t *bytes = s.picture == UPRZEZAR_OLDER ? p->older : p->newest;
+    size_t i;
+    printf("show with window %" PRIu64 ", amount %" PRIu64 ", tick %" PRIu32 ": refusal %u, %s, %zu bytes from %zu, age %" PRIu32 ", raster",
+           window, amount, p->ticks.present, s.refusal, words[s.picture], s.length, s.offset, s.age);
+    for (i = 0; i < s.length; i++)
+        printf(" %02x", bytes[s.offset + i]);
+    printf("\n");
+}
+
+/* The first table of the example in "Page", docs/SCOPE.md; at last the older picture, at the tick of the line before. */
+static void shown(uprzezar_book b, two_pictures p) {
+    show(b, 1, 4, 9, &p);
+    show(b, 1, 4, 10, &p);
+    show(b, 1, 4, 19, &p);
+    show(uprzezar_rest(b).book, 1, 4, 9, &p);
+    p.ticks.present = p.ticks.newest;
+    show(b, 1, 4, 9, &p);
+    p.ticks.present -= 1;
+    show(b, 1, 4, 9, &p);
+    show(b, 1, 4, 10, &p);
+}
+
+/* The second table, each fault with an amount for the newest picture and with one for the older; before all others the refusals 8 and 4. */
+static void not_shown(uprzezar_book b, const two_pictures *good) {
+    static const uint8_t too_large[] = "P5 3 1 15 \020\0\007";
+    uprzezar_book none = b;
+    two_pictures cut = *good;
+    two_pictures bad = *good;
+    two_pictures both;
+    none.phase = 2;
+    cut.newest_bytes -= 1;
+    bad.older = too_large;
+    both = bad;
+    both.newest_bytes -= 1;
+    show(b, 1, 4, 0, good);
+    show(b, 1, 7, 9, good);
+    show(b, 1, 4, 9, &cut);
+    show(b, 1, 4, 19, &cut);
+    show(b, 1, 4, 9, &bad);
+    show(b, 1, 4, 19, &bad);
+    show(b, 1, 4, 9, &both);
+    show(b, 1, 7, 9, &both);
+    show(b, 1, 7, 0, &both);
+    show(b, 0, 7, 0, &both);
+    show(none, 0, 7, 0, &both);
+}
+
+static void page(void) {
+    static const uint8_t newest[] = "P5 2 2 255 \1\2\3\4";
+    static const uint8_t older[] = "P5 3 1 15 \017\0\007";
+    static const uprzezar_book b = {5, 6, 10, 13, 1, 6, 0, 0};
+    two_pictures p;
+    p.newest = newest;
+    p.newest_bytes = sizeof newest - 1;
+    p.older = older;
+    p.older_bytes = sizeof older - 1;
+    p.ticks.newest = 4294967290;
+    p.ticks.older = 4294967000;
+    p.ticks.present = 3;
+    shown(b, p);
+    not_shown(b, &p);
+}
+
 static void slots(void) {
     uint8_t ring[3] = {0xff, 0xff, 0xff};
     uint8_t cleared = uprzezar_ring_clear(5, 3, ring, sizeof ring);
@@ -1120,6 +1197,7 @@ int main(void) {
     comments();
     masks();
     lit_frames();
+    page();
     slots();
     return 0;
 }

@@ -3,6 +3,7 @@
 use crate::chance::Chance;
 use crate::pictures::{Kind, ONE_BYTE, TWO_BYTES};
 use crate::plain::book::{Book, Shape};
+use crate::plain::page::Ticks;
 use crate::plain::{image, lit, ring, score, zones, Refusal};
 use crate::proved;
 use std::hint::black_box;
@@ -79,6 +80,12 @@ impl Filled {
 pub fn crossed(book: Book) -> proved::Book {
     let Book { bound, length, tolerance, carry, phase, kept, head, resting } = book;
     proved::Book { bound, length, tolerance, carry, phase, kept, head, resting }
+}
+
+/// The plain ticks as the library takes them.
+pub fn crossed_ticks(ticks: Ticks) -> proved::Ticks {
+    let Ticks { newest, older, present } = ticks;
+    proved::Ticks { newest, older, present }
 }
 
 /// The plain version with the record going in and coming back by value, as it crosses to C.
@@ -565,6 +572,56 @@ fn lit_cases(cases: &mut Vec<Case>) {
     });
 }
 
+/// The counter has gone on with 0 since both pictures were taken.
+const TICKS: Ticks = Ticks { newest: 4_294_967_290, older: 4_294_967_000, present: 3 };
+
+/// What the page's choice is made from: a book of the box's setting, an amount for all that it keeps, and two pictures of one kind.
+#[derive(Clone)]
+struct Page {
+    book: Book,
+    ring: Vec<u8>,
+    amount: u64,
+    newest: Vec<u8>,
+    older: Vec<u8>,
+}
+
+impl Page {
+    fn new(kind: Kind, amount: u64) -> Page {
+        let (_, bound, length, tolerance) = SETTINGS[0];
+        let Filled { book, ring, .. } = Filled::by_a_third(bound, length, tolerance);
+        Page { book, ring, amount, newest: kind.picture(1), older: kind.picture(2) }
+    }
+
+    fn plain(self) -> Repeated {
+        repeated(move || {
+            let book = black_box(&self.book);
+            let shown = book.show(&self.ring, black_box(book.kept), black_box(self.amount), &self.newest, &self.older, black_box(TICKS));
+            shown.map(|shown| (shown.offset, shown.age))
+        })
+    }
+
+    fn proved(self) -> Repeated {
+        let (record, ticks) = (crossed(self.book), crossed_ticks(TICKS));
+        repeated(move || {
+            let record = black_box(record);
+            proved::show(record, &self.ring, black_box(record.kept), black_box(self.amount), &self.newest, &self.older, black_box(ticks))
+        })
+    }
+}
+
+fn show_case(cases: &mut Vec<Case>, what: &str, kind: Kind, amount: u64) {
+    let page = Page::new(kind, amount);
+    cases.push(Case { name: format!("show, {what}"), plain: page.clone().plain(), proved: page.proved() });
+}
+
+fn show_cases(cases: &mut Vec<Case>) {
+    let darker = Kind { maxval: 200, ..ONE_BYTE };
+    show_case(cases, "live, two images of 160 x 120, maxval 255", ONE_BYTE, 1);
+    show_case(cases, "frozen, two images of 160 x 120, maxval 255", ONE_BYTE, u64::MAX);
+    show_case(cases, "live, two images of 160 x 120, maxval 200", darker, 1);
+    show_case(cases, "live, two images of 120 x 90, maxval 4,095", TWO_BYTES, 1);
+}
+
 pub fn all() -> Vec<Case> {
     let mut cases = Vec::new();
     for (setting, bound, length, tolerance) in SETTINGS {
@@ -583,5 +640,6 @@ pub fn all() -> Vec<Case> {
     zone_cases(&mut cases, setting, bound, length, tolerance);
     picture_cases(&mut cases);
     lit_cases(&mut cases);
+    show_cases(&mut cases);
     cases
 }

@@ -128,6 +128,25 @@ pub struct RasterPlace {
     pub length: usize,
 }
 
+/// When two pictures were taken, and the tick now.
+#[derive(Clone, Copy, Debug)]
+#[repr(C)]
+pub struct Ticks {
+    pub newest: u32,
+    pub older: u32,
+    pub present: u32,
+}
+
+#[derive(Clone, Copy, Debug, Default, PartialEq, Eq)]
+#[repr(C)]
+pub struct Shown {
+    pub refusal: u8,
+    pub picture: u8,
+    pub offset: usize,
+    pub length: usize,
+    pub age: u32,
+}
+
 extern "C" {
     fn uprzezar_ring_clear(width: usize, slots: usize, ring: *mut u8, bytes: usize) -> u8;
     fn uprzezar_ring_read(width: usize, slots: usize, ring: *const u8, bytes: usize, slot: usize) -> Answer;
@@ -211,6 +230,18 @@ extern "C" {
     fn uprzezar_rank_coarse(frames: *const u8, bytes: usize, length: usize, step: usize, i: usize) -> Lit;
     fn uprzezar_select_coarse(frames: *const u8, bytes: usize, length: usize, step: usize, k: usize) -> Lit;
     fn uprzezar_in_byte(byte: u8, k: usize) -> u8;
+    fn uprzezar_show(
+        book: Book,
+        ring: *const u8,
+        bytes: usize,
+        window: u64,
+        amount: u64,
+        newest: *const u8,
+        newests: usize,
+        older: *const u8,
+        olders: usize,
+        ticks: Ticks,
+    ) -> Shown;
 }
 
 // A slice is all that the header asks of its callers: a pointer that is not null, aligned, with a length, and no other writer.
@@ -354,4 +385,9 @@ pub fn select_coarse(frames: &[u8], length: usize, step: usize, k: usize) -> Lit
 
 pub fn in_byte(byte: u8, k: usize) -> u8 {
     unsafe { uprzezar_in_byte(byte, k) }
+}
+
+pub fn show(book: Book, ring: &[u8], window: u64, amount: u64, newest: &[u8], older: &[u8], ticks: Ticks) -> Shown {
+    let [(lent, bytes), (new, newests), (old, olders)] = [ring, newest, older].map(|bytes| (bytes.as_ptr(), bytes.len()));
+    unsafe { uprzezar_show(book, lent, bytes, window, amount, new, newests, old, olders, ticks) }
 }

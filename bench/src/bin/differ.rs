@@ -3,11 +3,12 @@
 //!     differ [ROUNDS]    each round makes one call of each kind (default 1,000,000); at the end all sums of 1 to 130 slots of one bit, all ranks
 //!                        and places of up to 130 frames, and all places in a byte are made once
 
-use bench::cases::crossed;
+use bench::cases::{crossed, crossed_ticks};
 use bench::chance::Chance;
 use bench::pictures::{pixel_bytes, put_pixel};
 use bench::plain::book::{Book, Notice, Shape};
 use bench::plain::coarse::Coarser;
+use bench::plain::page::{Shown, Ticks};
 use bench::plain::sums::Summed;
 use bench::plain::zones::{self, ZoneRefused};
 use bench::plain::{image, lit, ring, score, Refusal};
@@ -925,7 +926,8 @@ fn read(bytes: &[u8]) -> (proved::Numbers, proved::RasterPlace) {
     }
 }
 
-fn image_calls(chance: &mut Chance, t: &mut [Tally]) {
+/// An image's width, height and maxval.
+fn image_numbers(chance: &mut Chance) -> (u64, u64, u64) {
     let large = chance.one_in(200);
     let width = if large { near(chance, 1024) } else { near(chance, 12) };
     let maxval = match chance.below(6) {
@@ -936,6 +938,11 @@ fn image_calls(chance: &mut Chance, t: &mut [Tally]) {
         _ => 255,
     };
     let height = if large { near(chance, 24560 / pixel_bytes(maxval) as u64 / width.max(1)) } else { near(chance, 12) };
+    (width, height, maxval)
+}
+
+fn image_calls(chance: &mut Chance, t: &mut [Tally]) {
+    let (width, height, maxval) = image_numbers(chance);
     let allowance = chance.pick(&[0, 1, 12, 254, 255, 100]);
     let apart = u64::from(allowance) * maxval.min(65535) / 255;
     let mut first = picture(chance, width, height, maxval, &[], apart);
@@ -1051,13 +1058,86 @@ fn every_byte(t: &mut Tally) {
     }
 }
 
+/// A record with its ring: a book for the most part, since of what is none only one in eight is taken.
+fn page_book(chance: &mut Chance) -> (Book, Vec<u8>) {
+    loop {
+        let (book, ring) = state(chance);
+        if book.total(&ring, 0).is_ok() || chance.one_in(8) {
+            return (book, ring);
+        }
+    }
+}
+
+/// An image for the page: good for the most part, and damaged in a quarter of the cases.
+fn page_image(chance: &mut Chance) -> Vec<u8> {
+    let (width, height, maxval) = image_numbers(chance);
+    let mut image = picture(chance, width, height, maxval, &[], 0);
+    if chance.one_in(4) {
+        damage(chance, &mut image);
+    }
+    image
+}
+
+/// Three ticks: near to each other for the most part, where the counter goes on with 0 and elsewhere, in any order.
+fn ticks(chance: &mut Chance) -> Ticks {
+    let anywhere = chance.next() as u32;
+    let middle = chance.pick(&[0, 0, 1 << 31, anywhere]);
+    let [newest, older, present] = [(); 3].map(|()| {
+        let (near, far) = (chance.below(40) as u32, chance.next() as u32);
+        if chance.one_in(8) { far } else { middle.wrapping_add(near).wrapping_sub(20) }
+    });
+    Ticks { newest, older, present }
+}
+
+/// The plain version's choice as numbers.
+fn shown(result: Result<Shown<'_>, Refusal>, newest: &[u8], older: &[u8]) -> proved::Shown {
+    match result {
+        Ok(Shown { picture, offset, raster, age }) => {
+            let picture = picture as u8;
+            let lent = if picture == 1 { newest } else { older };
+            assert!(raster.as_ptr() == lent[offset..].as_ptr(), "the plain raster is a part of the slice");
+            proved::Shown { refusal: 0, picture, offset, length: raster.len(), age }
+        }
+        Err(refusal) => proved::Shown { refusal: refusal as u8, ..Default::default() },
+    }
+}
+
+/// A choice by the library's own verdict and rasters.
+fn by_verdict(ruled: proved::Ruled, newest: &[u8], older: &[u8], ticks: Ticks) -> proved::Shown {
+    let (newest, older) = (proved::raster(newest), proved::raster(older));
+    let refusals = [ruled.refusal, newest.refusal, older.refusal];
+    if let Some(&refusal) = refusals.iter().find(|&&refusal| refusal != 0) {
+        return proved::Shown { refusal, ..Default::default() };
+    }
+    let (picture, place, own) = if ruled.verdict == 1 { (1, newest, ticks.newest) } else { (2, older, ticks.older) };
+    let age = (u64::from(ticks.present) + (1 << 32) - u64::from(own)) % (1 << 32);
+    proved::Shown { refusal: 0, picture, offset: place.offset, length: place.length, age: age as u32 }
+}
+
+fn page_call(chance: &mut Chance, t: &mut Tally) {
+    let (book, bytes) = page_book(chance);
+    let window = near(chance, book.kept);
+    let held = book.total(&bytes, window).unwrap_or(10);
+    let most = chance.pick(&[held, held.wrapping_add(book.tolerance)]);
+    let amount = near(chance, most);
+    let record = crossed(book);
+    let (newest, older, ticks) = (page_image(chance), page_image(chance), ticks(chance));
+    let call = || format!("{book:?}, window {window}, amount {amount}, ring {bytes:02x?}, {newest:02x?}, {older:02x?}, {ticks:?}");
+
+    let p = shown(book.show(&bytes, window, amount, &newest, &older, ticks), &newest, &older);
+    let q = proved::show(record, &bytes, window, amount, &newest, &older, crossed_ticks(ticks));
+    let ruled = proved::verdict(record, &bytes, window, amount);
+    alike(t.name, "by its verdict", by_verdict(ruled, &newest, &older, ticks), q, call);
+    same(t, p.refusal, p, q, call);
+}
+
 fn main() {
     let rounds: u64 = std::env::args().nth(1).map_or(1_000_000, |n| n.parse().expect("a number of rounds"));
     let names = [
         "ring_clear", "ring_read", "ring_write", "ring_sum", "shape", "open", "add", "total", "far", "verdict", "rest", "wake", "run",
         "header", "raster", "score", "masked", "open_row", "add_row", "total_row", "run_row",
         "trend", "coarsen", "coarsen_row", "zones_add", "zone_add", "salvage", "salvage_row",
-        "rank", "select", "rank_coarse", "select_coarse", "in_byte",
+        "rank", "select", "rank_coarse", "select_coarse", "in_byte", "show",
     ];
     let mut tallies = names.map(|name| Tally { name, counts: [0; 23] });
     let mut chance = Chance::new(2026);
@@ -1076,6 +1156,7 @@ fn main() {
         zone_calls(&mut chance, &mut tallies[24..26]);
         salvage_calls(&mut chance, &mut tallies[26..28]);
         lit_calls(&mut chance, &mut tallies[28..33]);
+        page_call(&mut chance, &mut tallies[33]);
     }
     one_bit_sums(&mut chance, &mut tallies[3]);
     few_frames(&mut chance, &mut tallies[28..32]);

@@ -4,6 +4,7 @@ pub mod book;
 pub mod coarse;
 pub mod image;
 pub mod lit;
+pub mod page;
 pub mod program;
 pub mod ring;
 pub mod salvage;

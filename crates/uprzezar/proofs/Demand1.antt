@@ -1,7 +1,7 @@
 -- Demand 1 and uniqueness of each exported call. Where the statement is that of the call behind it, so are its theorems: `ring-calls`,
--- `book-calls`, `sums-calls`, `trend-calls`, `coarse-calls`, `salvage-calls`, `zones-calls`, `image-calls`, `score-calls` and `lit-calls` say which
--- row it is. The look into a byte refuses nothing, and has no row: of it uniqueness is all. `Post` is the statement itself, as it stands at the
--- function; the two calls for zones have none, and their statements are compared with what is promised.
+-- `book-calls`, `sums-calls`, `trend-calls`, `coarse-calls`, `salvage-calls`, `zones-calls`, `image-calls`, `score-calls`, `lit-calls` and
+-- `page-calls` say which row it is. The look into a byte refuses nothing, and has no row: of it uniqueness is all. `Post` is the statement itself, as
+-- it stands at the function; the two calls for zones have none, and their statements are compared with what is promised.
 -- Assumes nothing.
 use Prim.Native.Nat.{ℕ}
 use mathlib.Core.List.{List}
@@ -56,9 +56,12 @@ use Rattle.score.proofs.Demand1 as score-calls
 use Rattle.lit.specs.declared.Answer as lit-answer
 use Rattle.lit.specs.Calls.{rankCall, selectCall, coarseRankCall, coarseSelectCall}
 use Rattle.lit.proofs.Demand1 as lit-calls
-use Rattle.uprzezar.specs.Crossing.{asNumbers, placeIn}
+use Rattle.page.specs.Calls.{lentBy, showCall}
+use Rattle.page.proofs.Promises as page-calls
+use Rattle.uprzezar.specs.Crossing.{asNumbers, placeIn, shownAs}
 use Rattle.uprzezar.specs.declared.Ruled.{Ruled}
 use Rattle.uprzezar.specs.declared.Raster.{Raster}
+use Rattle.uprzezar.specs.declared.Shown.{Shown}
 use Rattle.uprzezar.proofs.of_ring.uprzezar_ring_clear.Reads as clear-reads
 use Rattle.uprzezar.proofs.of_ring.uprzezar_ring_read.Reads as read-reads
 use Rattle.uprzezar.proofs.of_ring.uprzezar_ring_write.Reads as write-reads
@@ -92,6 +95,7 @@ use Rattle.uprzezar.proofs.of_lit.uprzezar_select.Reads as select-reads
 use Rattle.uprzezar.proofs.of_lit.uprzezar_rank_coarse.Reads as rank-coarse-reads
 use Rattle.uprzezar.proofs.of_lit.uprzezar_select_coarse.Reads as select-coarse-reads
 use Rattle.uprzezar.proofs.of_lit.uprzezar_in_byte.Reads as in-byte-reads
+use Rattle.uprzezar.proofs.of_page.uprzezar_show.Reads as show-reads
 
 -- THE RING. In `a` stand the arguments in their order, in `e` the same as the call returns
 module _ (κs : Lfts 1) where
@@ -273,3 +277,12 @@ module _ (κs : Lfts 1) where
 module _ (κs : Lfts 0) where
   pub in-byte-settled : Settles {Lent = Unit {0}} (in-byte-reads.Post κs) (λ r. r) (λ a e. tt)
   in-byte-settled = lit-calls.in-byte-settled κs
+
+-- THE PAGE. Its choice is seen as numbers, the refusal among them as it is. Ring and images are lent to be read alone
+module _ (κs : Lfts 3) where
+  pub show-promised : Promised (show-reads.Post κs) (λ r. r) (λ a e. lentBy (a .1 .0) (a .1 .1 .1 .1 .0) (a .1 .1 .1 .1 .1 .0))
+      (λ a. seenAs shownAs
+      (showCall (a .0) (a .1 .1 .0) (a .1 .1 .1 .0) (lentBy (a .1 .0) (a .1 .1 .1 .1 .0) (a .1 .1 .1 .1 .1 .0)) (a .1 .1 .1 .1 .1 .1 .0)))
+      (λ (r : Shown). r .refusal)
+  show-promised =
+      seen-promised _ _ _ shownAs _ (λ a r e p. (p, page-calls.show-leaves _ _ _ _ _)) _ (λ a. page-calls.show-tells _ _ _ _ _)

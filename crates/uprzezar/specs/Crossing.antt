@@ -1,5 +1,5 @@
--- The two answers that do not cross to C as they are: what the page is told crosses as numbers (SCOPE, Verdict and Dark hours), and a raster as its
--- place in the lent bytes.
+-- The answers that do not cross to C as they are: what the page is told crosses as numbers (SCOPE, Verdict and Dark hours), and so does the choice of
+-- a picture (SCOPE, Page); a raster crosses as its place in the lent bytes.
 use Prim.Native.Nat.{ℕ, zero, suc, _-_}
 use mathlib.Core.List.{List}
 use Rattle.book.specs.declared.verdicts.Verdict.{Verdict}
@@ -9,8 +9,13 @@ use Rattle.book.specs.declared.verdicts.Ruling.the-variants.{Told, Refused}
 use Rattle.book.specs.Verdict.{refusalIn, rulingNumber, windowIn, valueIn}
 use Rattle.image.specs.declared.Numbers.{Numbers}
 use Rattle.image.specs.Reading.{numbersOf}
+use Rattle.page.specs.declared.Picture.{Picture}
+use Rattle.page.specs.declared.Picture.the-variants.{Neither, Newest, Older}
+use Rattle.page.specs.declared.Choice.{Choice}
+use Rattle.page.specs.Shown.{pictureNumber}
 use Rattle.uprzezar.specs.declared.Ruled.{Ruled}
 use Rattle.uprzezar.specs.declared.Raster.{Raster}
+use Rattle.uprzezar.specs.declared.Shown.{Shown}
 
 -- the refusal, the verdict, the window and the figure; numbers that there are not are 0
 abbrev pub asNumbers : Ruling → Ruled
@@ -35,3 +40,31 @@ placeIn numbers = record { refusal = numbers .refusal; offset = numbers .start; 
 
 abbrev pub rasterPlace : List ℕ → Raster
 rasterPlace s = placeIn (numbersOf s)
+
+-- a choice, with its picture's number
+abbrev pub shownAs : Choice → Shown
+shownAs choice =
+    record {
+      refusal = choice .refusal;
+      picture = pictureNumber (choice .picture);
+      offset = choice .offset;
+      length = choice .length;
+      age = choice .age;
+    }
+
+-- the picture that a number tells
+abbrev pub pictureAt : ℕ → Picture
+pictureAt zero = Neither
+pictureAt (suc zero) = Newest
+pictureAt (suc (suc other)) = Older
+
+-- the choice that five numbers tell
+abbrev pub choiceIn : Shown → Choice
+choiceIn told =
+    record {
+      refusal = told .refusal;
+      picture = pictureAt (told .picture);
+      offset = told .offset;
+      length = told .length;
+      age = told .age;
+    }

@@ -8,7 +8,7 @@ use crate::text;
 use score::Answer;
 
 // Whether the raster has the very bytes that stand between two places.
-fn stands(raster: &[u8], s: &[u8], from: usize, end: usize) -> bool {
+pub(crate) fn stands(raster: &[u8], s: &[u8], from: usize, end: usize) -> bool {
     if from > end {
         return false;
     }

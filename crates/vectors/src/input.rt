@@ -4,6 +4,7 @@ use crate::coarser;
 use crate::fields::place;
 use crate::images;
 use crate::lit_frames;
+use crate::pages;
 use crate::rings;
 use crate::row_books;
 use crate::salvages;
@@ -41,6 +42,15 @@ fn of_book(line: &[u8], first: &mut [u8], second: &mut [u8], out: &mut [u8]) -> 
     coarser::answer(line, first, second, out)
 }
 
+// The calls on images, those of the page too.
+fn of_images(line: &[u8], first: &mut [u8], second: &mut [u8], out: &mut [u8]) -> usize {
+    let image = images::answer(line, first, second, out);
+    if image != 0 {
+        return image;
+    }
+    pages::answer(line, first, second, out)
+}
+
 fn known(line: &[u8], first: &mut [u8], second: &mut [u8], out: &mut [u8]) -> usize {
     let ring = rings::answer(line, first, out);
     if ring != 0 {
@@ -58,7 +68,7 @@ fn known(line: &[u8], first: &mut [u8], second: &mut [u8], out: &mut [u8]) -> us
     if of_frames != 0 {
         return of_frames;
     }
-    images::answer(line, first, second, out)
+    of_images(line, first, second, out)
 }
 
 fn send(out: &[u8], count: usize) {

@@ -7,6 +7,7 @@ mod images;
 mod input;
 mod lent_zones;
 mod lit_frames;
+mod pages;
 mod reading;
 mod rings;
 mod row_books;

@@ -21,6 +21,12 @@ pub(crate) struct ParsedByte {
     pub value: u8,
 }
 
+// A tick, if the text is a number below 2^32.
+pub(crate) struct ParsedTick {
+    pub ok: bool,
+    pub value: u32,
+}
+
 // How many bytes, or numbers of a row, were read, if the text is such that fit.
 pub(crate) struct Size {
     pub ok: bool,
@@ -119,6 +125,22 @@ pub(crate) fn byte_in(line: &[u8], at: usize) -> ParsedByte {
     ParsedByte {
         ok: n.ok,
         value: value as u8,
+    }
+}
+
+// The tick in a field of the line: a larger number is none.
+pub(crate) fn tick_in(line: &[u8], at: usize) -> ParsedTick {
+    let n = number_in(line, at);
+    let value = n.value;
+    if value > 4294967295 {
+        return ParsedTick {
+            ok: false,
+            value: 0,
+        };
+    }
+    ParsedTick {
+        ok: n.ok,
+        value: value as u32,
     }
 }
 

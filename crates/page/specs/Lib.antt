@@ -1,0 +1,5 @@
+pub mod Ages
+pub mod Shown
+pub mod Calls
+pub mod Both
+pub mod Picked
