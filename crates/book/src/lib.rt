@@ -1,5 +1,8 @@
 // A book of frame counts: it takes one count a frame, or a run of them, and tells, within a tolerance, how much changed over the last i frames.
 // The record goes in and comes back by value, the ring is lent. What each call answers and leaves is defined in specs/Calls.antt.
+
+#![tactic(auto)]
+
 ghost use Rattle.std.specs.Prelude.{◌≡◌};
 ghost use Rattle.refusals.specs.Call.{result_of, left_of};
 ghost use Rattle.book.specs.Record.{opened};

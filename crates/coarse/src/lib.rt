@@ -1,5 +1,8 @@
 // Making a live book coarser where room runs short: from a book whose tolerance D is a multiple of its bound, one with tolerance typeof.m.D in a second
 // lent ring, which goes on where the old one stood. What the calls give and leave is defined in specs/Calls.antt.
+
+#![tactic(auto)]
+
 ghost use Rattle.std.specs.Prelude.{◌≡◌, ◌+◌, ◌*◌};
 ghost use Rattle.refusals.specs.Call.{result_of, left_of};
 ghost use Rattle.coarse.specs.Calls.{coarsen_call, coarsen_row_call};

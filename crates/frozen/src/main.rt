@@ -1,5 +1,8 @@
 // Reads PGM images one after another from standard input and writes a row for each as soon as its last byte has come.
 // What a row says is decided by the crate watch; here are only the buffers and the two file descriptors. (specs/Running.antt)
+
+#![tactic(auto)]
+
 mod desk;
 mod round;
 

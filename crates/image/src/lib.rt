@@ -1,6 +1,9 @@
 // Reads a binary PGM image from bytes that the caller lends: its numbers by one call, its raster as a part of those bytes by another; and
 // the numbers of a mask, which is a binary PBM. Every slice gets an answer; what it is stands in specs/Reading.antt, specs/Part.antt and
 // specs/Mask.antt.
+
+#![tactic(auto)]
+
 ghost use Rattle.std.specs.Prelude.{◌≡◌};
 ghost use Rattle.image.specs.Reading.{numbers_of};
 ghost use Rattle.image.specs.Mask.{mask_numbers_of};

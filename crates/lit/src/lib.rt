@@ -1,5 +1,8 @@
 // Lit frames, one bit a frame, packed as a PBM row: how many of the first i are lit, where the k-th lit one is, and both with a step.
 // What each call answers is its row in specs/Calls.antt.
+
+#![tactic(auto)]
+
 ghost use Rattle.std.specs.Prelude.{◌≡◌};
 ghost use Rattle.refusals.specs.Call.{result_of};
 ghost use Rattle.lit.specs.InByte.{place_in_byte};

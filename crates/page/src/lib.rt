@@ -1,5 +1,8 @@
 // Which of two pictures the page shows, the newest or the last one that was known to move, and how old it is. What the calls give is defined in
 // specs/Calls.antt.
+
+#![tactic(auto)]
+
 ghost use Rattle.std.specs.Prelude.{◌≡◌};
 ghost use Rattle.refusals.specs.Call.{result_of};
 ghost use Rattle.image.specs.Part.{part_of};

@@ -1,5 +1,8 @@
 // What all calls share: the refusal numbers (SCOPE, Refusals), how the first one that applies is found, and what a refusal leaves as it was.
 // The numbers stand here for the code and in specs/Numbers.antt for the statements; no call is made here.
+
+#![tactic(auto)]
+
 pub const BAD_BOUND: u8 = 1;
 
 pub const BAD_LENGTH: u8 = 2;

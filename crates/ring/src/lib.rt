@@ -1,5 +1,8 @@
 // A ring of packed small numbers in bytes that the caller lends: clear, read a slot, write a slot, sum the newest slots.
 // Every call with every slice and every number answers; what it answers and leaves is its row in specs/Calls.antt.
+
+#![tactic(auto)]
+
 ghost use Rattle.std.specs.Prelude.{◌≡◌};
 ghost use Rattle.refusals.specs.Call.{result_of, left_of};
 ghost use Rattle.ring.specs.Calls.{clear_call, read_call, write_call, sum_call};

@@ -1,5 +1,8 @@
 // The lines that the program writes, as bytes into a lent buffer: decimal numbers, commas, words, CR LF.
 // Each call writes its line to the start of the buffer and gives its length, or a refusal (specs/Calls.antt).
+
+#![tactic(auto)]
+
 ghost use Rattle.std.specs.Prelude.{◌≡◌};
 ghost use Rattle.refusals.specs.Numbers.{buffer_too_short};
 ghost use Rattle.refusals.specs.Call.{result_of, left_of};

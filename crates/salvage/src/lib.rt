@@ -1,6 +1,9 @@
 // Salvage after a brown-out: a tool that goes through a book's ring, puts right what cannot be, tells which slots that were, and shortens what is
 // kept to the windows that none of them lies in. What the calls give and leave is defined in specs/Calls.antt. Values that were scrambled and are
 // not above z cannot be seen; where D is at least L no field can be above z.
+
+#![tactic(auto)]
+
 ghost use Rattle.std.specs.Prelude.{◌≡◌};
 ghost use Rattle.refusals.specs.Call.{result_of, left_of};
 ghost use Rattle.salvage.specs.Calls.{salvage_call, salvage_row_call};

@@ -1,5 +1,8 @@
 // How much changed between two images: the number of positions whose pixels differ by more than an allowance, in parts of 255 of maxval;
 // under a mask, of those alone that are not black. Every call answers; what it answers is defined in specs/Calls.antt and specs/Masked.antt.
+
+#![tactic(auto)]
+
 ghost use Rattle.std.specs.Prelude.{◌≡◌};
 ghost use Rattle.refusals.specs.Call.{result_of};
 ghost use Rattle.score.specs.Calls.{score_call};

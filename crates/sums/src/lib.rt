@@ -1,6 +1,9 @@
 // A book with a row of running sums beside it: the book's own calls, handed a lent row of 32-bit numbers too, so that a total reads at most 64
 // fields of the ring and 3 numbers of the row. What each call gives and leaves is defined in specs/Calls.antt, which fields and sums a total
 // reads in specs/Rule.antt.
+
+#![tactic(auto)]
+
 ghost use Rattle.std.specs.Prelude.{◌≡◌};
 ghost use Rattle.refusals.specs.Call.{result_of, left_of};
 ghost use Rattle.book.specs.Record.{no_book_at_all};

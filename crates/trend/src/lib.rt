@@ -1,5 +1,8 @@
 // More or less movement than before: the last i items set against the i before them, by the figures for i and for 2i. What the call gives is
 // defined in specs/Trend.antt.
+
+#![tactic(auto)]
+
 ghost use Rattle.std.specs.Prelude.{◌≡◌};
 ghost use Rattle.refusals.specs.Call.{result_of};
 ghost use Rattle.trend.specs.Trend.{trend_call};

@@ -2,6 +2,9 @@
 // `rt staticlib uprzezar`, the header include/uprzezar.h. Not among them are book::two_totals, image::mask_header and image::pair_value, and
 // page::raster, since a part of lent bytes cannot cross: where that raster lies stands in what uprzezar_show gives. Each function hands its
 // arguments on and promises what the call behind it promises; a verdict and a choice of a picture cross as numbers, and a raster as its place.
+
+#![tactic(auto)]
+
 mod crossing;
 mod of_book;
 mod of_coarse;

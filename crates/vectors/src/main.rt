@@ -1,5 +1,8 @@
 // Calls from standard input, one a line; an answer a line on standard output, as soon as its line is read. Nothing is kept
 // between lines. What is answered is held to the file stdout, which a reference made that shares nothing with the code (reference/).
+
+#![tactic(auto)]
+
 mod books;
 mod coarser;
 mod fields;

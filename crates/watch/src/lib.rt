@@ -1,5 +1,8 @@
 // What a frame leads to: the score against the frame before it goes into the book, and a row tells what the book now says.
 // What a turn comes to is defined in specs/Turn.antt; the two calls in specs/Calls.antt; the whole output in specs/Output.antt.
+
+#![tactic(auto)]
+
 ghost use Rattle.std.specs.Prelude.{◌≡◌};
 ghost use Rattle.refusals.specs.Call.{result_of, left_of};
 ghost use Rattle.watch.specs.Turn.{outcome_of};

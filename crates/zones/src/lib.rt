@@ -1,5 +1,8 @@
 // A book for each zone of the picture. The box lends the zones' records, one slice of ring bytes in which every zone has its own stretch, in
 // order and as long as its own B, and the counts. What each call answers and leaves is defined in specs/Calls.antt.
+
+#![tactic(auto)]
+
 ghost use Rattle.std.specs.Prelude.{◌≡◌};
 ghost use Rattle.refusals.specs.Call.{result_of, left_of};
 ghost use Rattle.zones.specs.Calls.{add_all_call, add_one_call};
