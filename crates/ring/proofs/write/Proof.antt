@@ -14,28 +14,28 @@ use Rattle.ring.proofs.write.Statement.{statement}
 use Rattle.ring.proofs.write.Tie as tie
 
 -- once the call is judged
-module _ (p : tie.After-call) where
+module _ (p : tie.After-call-refusal) where
   abbrev start : tie.Start
   start = p.before.before.before
 
   abbrev row : Call ℕ (List ℕ)
   row = write_call start.args.width start.args.slots start.args.ring.now start.args.slot start.args.value
 
-  found : p.call.result ≡ refusal_of row
+  found : p.call-refusal.result ≡ refusal_of row
   unfolding write_call
-  found = rw p.before.too_large.ensures at p.call.ensures ∙ sym (refusal_is row)
+  found = rw p.before.too_large.ensures at p.call-refusal.ensures ∙ sym (refusal_is row)
 
-returns : tie.Need-returns
+returns : tie.Need-returns-then-refusal-ne0
 unfolding write_call
 returns c = let p = c.before in (
-  result_refused (row p) (found p) c.if1.true,
-  left_refused (row p) (found p) c.if1.true,
+  result_refused (row p) (found p) c.if-refusal-ne0.true,
+  left_refused (row p) (found p) c.if-refusal-ne0.true,
 )
 
 put-requires : tie.Need-put-requires
 put-requires c κs = let p = c.before.before in
     let a = (start p).args in
-    let h = write_known a.width a.slots a.ring.now a.slot a.value (sym (found p) ∙ c.before.if1.false) in
+    let h = write_known a.width a.slots a.ring.now a.slot a.value (sym (found p) ∙ c.before.if-refusal-ne0.false) in
     let w = h.0.whole in (
       w.width_low,
       w.width_high,
@@ -44,13 +44,13 @@ put-requires c κs = let p = c.before.before in
       h.1,
     )
 
-returns-2 : tie.Need-returns-2
+returns-2 : tie.Need-returns
 unfolding write_call
 returns-2 c = let w = c.before.before in
     let e = w.before.before in
     let p = e.before in (
-      result_taken (row p) (found p) e.if1.false,
-      w.put.ensures ∙ left_taken (row p) (found p) e.if1.false,
+      result_taken (row p) (found p) e.if-refusal-ne0.false,
+      w.put.ensures ∙ left_taken (row p) (found p) e.if-refusal-ne0.false,
     )
 
 pub write_spec : {M : Type 1} → statement M

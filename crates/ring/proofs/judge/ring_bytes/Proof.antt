@@ -7,10 +7,10 @@ use Rattle.ring.specs.Slot.{ring_bytes}
 use Rattle.ring.proofs.judge.ring_bytes.Statement.{statement}
 use Rattle.ring.proofs.judge.ring_bytes.Tie as tie
 
-mul-result : tie.Need-overflow-mul-result
+mul-result : tie.Need-overflow_mul-result
 mul-result c = omega (arith, mul-le-mul c.requires.1 c.requires.0)
 
-add-result : tie.Need-overflow-add-result
+add-result : tie.Need-overflow_add-result
 add-result c = omega (arith, mul-le-mul c.requires.1 c.requires.0)
 
 returns : tie.Need-returns

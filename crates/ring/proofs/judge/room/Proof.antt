@@ -8,12 +8,12 @@ use Rattle.ring.specs.Slot.{ring_bytes}
 use Rattle.ring.proofs.judge.room.Statement.{statement}
 use Rattle.ring.proofs.judge.room.Tie as tie
 
-returns : tie.Need-returns
+returns : tie.Need-returns-then-lent-ring_bytes
 returns c = let a = c.before.before.args in
     let h : a.lent < ring_bytes a.width a.slots = omega arith in
     simp (lt-ltb _ _ h)
 
-returns-2 : tie.Need-returns-2
+returns-2 : tie.Need-returns
 returns-2 c = let a = c.before.before.args in
     let h : ring_bytes a.width a.slots ≤ a.lent = omega arith in
     simp (le-ltb _ _ h)

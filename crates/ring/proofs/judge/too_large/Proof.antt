@@ -9,12 +9,12 @@ use lib.Pow.{pow_mono}
 use Rattle.ring.proofs.judge.too_large.Statement.{statement}
 use Rattle.ring.proofs.judge.too_large.Tie as tie
 
-returns : tie.Need-returns
+returns : tie.Need-returns-then-width-ge64
 returns c = let a = c.before.args in
     let fits : a.value < 2 ^ a.width = omega (arith, pow_mono {i = 64} {j = a.width} (omega arith)) in
     sym (lt-leb (2 ^ a.width) a.value fits)
 
-returns-2 : tie.Need-returns-2
+returns-2 : tie.Need-returns
 returns-2 c = rw c.power.ensures
 
 pub too_large_spec : {M : Type 1} → statement M

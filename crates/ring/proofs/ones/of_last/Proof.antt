@@ -8,17 +8,17 @@ use Rattle.ring.proofs.CountingOnes.{counted_le, same_counted, join_counted}
 use Rattle.ring.proofs.ones.of_last.Statement.{statement}
 use Rattle.ring.proofs.ones.of_last.Tie as tie
 
-returns : tie.Need-returns
+returns : tie.Need-returns-then-last-first
 returns c = same_counted c.of_part.ensures (omega arith) (omega arith)
 
 -- the run up to the part behind the whole bytes
-to_last : (c : tie.After-of-bytes)
+to_last : (c : tie.After-of_bytes)
     → let a = c.before.before.before.before.args in
-    Counted a.ring.now (a.end / 8 * 8) (a.end / 8 * 8 - (a.end - a.n)) (c.before.of-part2.result + c.of-bytes.result)
-to_last c = join_counted c.before.of-part2.ensures c.of-bytes.ensures (omega arith) (omega arith) (omega arith) (omega arith)
+    Counted a.ring.now (a.end / 8 * 8) (a.end / 8 * 8 - (a.end - a.n)) (c.before.of_part-2.result + c.of_bytes.result)
+to_last c = join_counted c.before.of_part-2.ensures c.of_bytes.ensures (omega arith) (omega arith) (omega arith) (omega arith)
 
-returns-2 : tie.Need-returns-2
-returns-2 c = join_counted (to_last c.before) c.of-part3.ensures (omega arith) (omega arith) (omega arith) (omega arith)
+returns-2 : tie.Need-returns
+returns-2 c = join_counted (to_last c.before) c.of_part-3.ensures (omega arith) (omega arith) (omega arith) (omega arith)
 
 pub of_last_spec : {M : Type 1} → statement M
 of_last_spec =

@@ -11,21 +11,21 @@ use borrow.Author.Rules.{rules}
 use Rattle.ring.proofs.slot.get.Statement.{statement}
 use Rattle.ring.proofs.slot.get.Tie as tie
 
-mul-if1 : tie.Need-overflow-mul-if1
+mul-if1 : tie.Need-overflow_mul-slot
 mul-if1 c = let a = c.before.args in omega (arith, first_bit_le a.width a.slot c.before.requires.1 c.before.requires.2)
 
-rem-result : tie.Need-nonzero-rem-result
+rem-result : tie.Need-nonzero_rem-result
 rem-result c = rw c.power.ensures (pow_pos _)
 
-returns-2 : tie.Need-returns-2
+returns-2 : tie.Need-returns
 unfolding field
 returns-2 c = let p = c.before.before in
     let a = p.before.before.before.args in
-    let at = p.locate.result in
+    let at = p.locate-at.result in
     rw (c.power.ensures, c.before.load.ensures)
     (sym
     (read_word (a.slot * a.width) a.width at.first at.count at.after
-    (record { ends = p.locate.ensures.0.0; starts = p.locate.ensures.0.1 }) a.ring.now (omega arith)))
+    (record { ends = p.locate-at.ensures.0.0; starts = p.locate-at.ensures.0.1 }) a.ring.now (omega arith)))
 
 pub get_spec : {M : Type 1} → statement M
 get_spec =

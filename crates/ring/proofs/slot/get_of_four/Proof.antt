@@ -11,17 +11,17 @@ use borrow.Author.Rules.{rules}
 use Rattle.ring.proofs.slot.get_of_four.Statement.{statement}
 use Rattle.ring.proofs.slot.get_of_four.Tie as tie
 
-mul-from : tie.Need-overflow-mul-from
+mul-from : tie.Need-overflow_mul-from
 mul-from c = let a = c.before.args in omega (arith, first_bit_le a.width a.slot c.before.requires.1 c.before.requires.2)
 
-rem-result : tie.Need-nonzero-rem-result
+rem-result : tie.Need-nonzero_rem-result
 rem-result c = rw c.power.ensures (pow_pos c.before.before.before.args.width)
 
 returns : tie.Need-returns
 unfolding field
 returns c = let a = c.before.before.before.args in
     let from = a.slot * a.width in
-    rw (c.power.ensures, c.before.load-four.ensures)
+    rw (c.power.ensures, c.before.load_four.ensures)
     (sym
     (read_word from a.width (from / 8) 4 (32 - a.width - from % 8) (record { ends = omega arith; starts = omega arith }) a.ring.now
     (omega arith)))

@@ -9,27 +9,25 @@ use Rattle.bits.proofs.Promises.{patched, stored, word_lt, write_word}
 use Rattle.ring.proofs.slot.put.Statement.{statement}
 use Rattle.ring.proofs.slot.put.Tie as tie
 
-patch-requires : tie.Need-patch-requires
-patch-requires c κs = let a = c.before.before.before.before.args in
-    let p = c.before.before.locate in
-    (rw c.load.ensures (word_lt a.ring.now p.result.first p.result.count (omega arith)), omega arith, omega arith)
+patch-requires : tie.Need-patch-new-requires
+patch-requires c κs = let a = c.args in
+    let p = c.locate-at in
+    (rw c.load-old.ensures (word_lt a.ring.now p.result.first p.result.count (omega arith)), omega arith, omega arith)
 
 returns : tie.Need-returns
 unfolding written
 returns c = let w = c.before.before in
     let q = w.before.before in
     let l = q.before in
-    let p = l.before.before in
-    let s = p.before.before in
-    let a = s.args in
-    let at = p.locate.result in
-    let word = q.patch.ensures ∙ ap (λ (old : ℕ). patched old a.width at.after a.value) l.load.ensures in
+    let a = c.args in
+    let at = c.locate-at.result in
+    let word = q.patch-new.ensures ∙ ap (λ (old : ℕ). patched old a.width at.after a.value) l.load-old.ensures in
     w.store.ensures
     ∙ ap (λ (new : ℕ). stored a.ring.now at.first new at.count) word
     ∙ sym
     (write_word (a.slot * a.width) a.width at.first at.count at.after
-    (record { ends = p.locate.ensures.0.0; starts = p.locate.ensures.0.1 }) a.ring.now (omega arith)
-    (λ i. (p.before.slice-known.given i).fits) a.value s.requires.4)
+    (record { ends = c.locate-at.ensures.0.0; starts = c.locate-at.ensures.0.1 }) a.ring.now (omega arith)
+    (λ i. (c.slice_known-1.given i).fits) a.value c.requires.4)
 
 pub put_spec : {M : Type 1} → statement M
 put_spec =

@@ -16,33 +16,33 @@ use Rattle.ring.proofs.slot.sum_newest.Tie as tie
 below_fits : (s : tie.Start) → s.args.next * s.args.width ≤ length s.args.ring.now * 8
 below_fits s = omega (arith, slot_end s.args.width s.requires.4)
 
-sum-last-requires : tie.Need-sum-last-requires
+sum-last-requires : tie.Need-sum_last-requires
 sum-last-requires c κs = (omega arith, omega arith, omega arith, below_fits c.before.before, omega arith)
 
-returns : tie.Need-returns
+returns : tie.Need-returns-then-j-next
 returns c = let a = c.before.before.before.args in
-    c.sum-last.ensures ∙ sym (sum_near (field a.width a.ring.now) a.slots a.next a.j (omega arith))
+    c.sum_last.ensures ∙ sym (sum_near (field a.width a.ring.now) a.slots a.next a.j (omega arith))
 
-sum-last-requires-2 : tie.Need-sum-last-requires-2
+sum-last-requires-2 : tie.Need-sum_last-requires-2
 sum-last-requires-2 c κs = (omega arith, omega arith, omega arith, below_fits c.before.before, omega arith)
 
-add-result : tie.Need-overflow-add-result
+add-result : tie.Need-overflow_add-result
 add-result c = let a = c.before.before.before.before.args in
     let held = field a.width a.ring.now in
     let bound : (k : ℕ) → held k ≤ 65535 = λ k. field_le a.width a.ring.now k (omega arith) in
     omega (
       arith,
-      c.before.sum-last2.ensures,
-      c.sum-last3.ensures,
+      c.before.sum_last-2.ensures,
+      c.sum_last-3.ensures,
       sum_le held 65535 bound a.next a.next a.next,
       sum_le held 65535 bound a.slots a.slots (a.j - a.next),
     )
 
-returns-2 : tie.Need-returns-2
+returns-2 : tie.Need-returns
 returns-2 c = let a = c.before.before.before.before.args in
     let held = field a.width a.ring.now in
     let all : a.next + (a.j - a.next) ≡ a.j = omega arith in
-    ap₂ (λ below above. below + above) c.before.sum-last2.ensures c.sum-last3.ensures
+    ap₂ (λ below above. below + above) c.before.sum_last-2.ensures c.sum_last-3.ensures
     ∙ sym (sum_far held a.slots a.next (a.j - a.next) (omega arith))
     ∙ ap (sum_newest held a.slots a.next) all
 

@@ -9,28 +9,28 @@ use lib.ListN.{length, drop, set, replicate, length-set}
 use Rattle.ring.proofs.slot.wipe.Statement.{statement}
 use Rattle.ring.proofs.slot.wipe.Tie as tie
 
-abbrev invariant-loop : tie.invariant-loop
+abbrev invariant-loop : tie.invariant-loop-i
 invariant-loop ring₀ n i₀ ring i = (i ≤ n) × (length ring ≡ length ring₀) × (ring ≡ replicate i 0 ++ drop i ring₀)
 
-abbrev decreases-loop : tie.decreases-loop
+abbrev decreases-loop : tie.decreases-loop-i
 decreases-loop ring₀ n i₀ ring i = n - i
 
-loop-holds : tie.Need-loop-init invariant-loop decreases-loop
+loop-holds : tie.Need-loop-i-init invariant-loop decreases-loop
 loop-holds c = (omega arith, refl, refl)
 
-loop-again : tie.Need-loop-preserved invariant-loop decreases-loop
+loop-again : tie.Need-loop-i-preserved invariant-loop decreases-loop
 loop-again c = let a = c.before.before.args in
-    let l = c.before.loop in (
+    let l = c.before.loop-i in (
       omega arith,
       length-set l.ring l.i 0 ∙ l.invariant.1,
       ap (λ r. set r l.i 0) l.invariant.2 ∙ fill_more l.i 0 a.ring.now (omega arith),
     )
 
-same_length : tie.Need-same-length invariant-loop decreases-loop
-same_length c = c.before.loop.invariant.1
+same_length : tie.Need-shape_of-ring invariant-loop decreases-loop
+same_length c = c.before.loop-i.invariant.1
 
 returns : tie.Need-returns invariant-loop decreases-loop
-returns c = let l = c.before.loop in
+returns c = let l = c.before.loop-i in
     let all : l.i ≡ c.before.before.args.n = omega arith in
     rw (sym all) l.invariant.2
 

@@ -28,24 +28,24 @@ module _ (s : tie.Start) where
   low_lt : s.args.word % 2 ^ s.args.after < 2 ^ 24
   low_lt = lt_of_lt_of_le (mod-lt s.args.word (pow_pos s.args.after)) (pow_mono {j = 24} (omega arith))
 
-rem-low : tie.Need-nonzero-rem-low
+rem-low : tie.Need-nonzero_rem-low
 rem-low c = rw c.power.ensures (pow_pos c.before.args.after)
 
-mul-result : tie.Need-overflow-mul-result
-mul-result c = rw c.power2.ensures (omega (arith, sum_lt c.before.before))
+mul-result : tie.Need-overflow_mul-result
+mul-result c = rw c.power-2.ensures (omega (arith, sum_lt c.before.before))
 
-add-result : tie.Need-overflow-add-result
-add-result c = rw c.power2.ensures (omega (arith, sum_lt c.before.before))
+add-result : tie.Need-overflow_add-result
+add-result c = rw c.power-2.ensures (omega (arith, sum_lt c.before.before))
 
-mul-result-2 : tie.Need-overflow-mul-result-2
-mul-result-2 c = rw (c.before.power2.ensures, c.power3.ensures) (omega (arith, product_le c.before.before.before))
+mul-result-2 : tie.Need-overflow_mul-result-2
+mul-result-2 c = rw (c.before.power-2.ensures, c.power-3.ensures) (omega (arith, product_le c.before.before.before))
 
-add-result-2 : tie.Need-overflow-add-result-2
+add-result-2 : tie.Need-overflow_add-result-2
 add-result-2 c = let s = c.before.before.before in
-    rw (c.before.power2.ensures, c.power3.ensures, c.before.before.power.ensures) (omega (arith, product_le s, low_lt s))
+    rw (c.before.power-2.ensures, c.power-3.ensures, c.before.before.power.ensures) (omega (arith, product_le s, low_lt s))
 
 returns : tie.Need-returns
-returns c = rw (c.before.power2.ensures, c.power3.ensures, c.before.before.power.ensures)
+returns c = rw (c.before.power-2.ensures, c.power-3.ensures, c.before.before.power.ensures)
 
 pub patch_spec : {M : Type 1} → statement M
 patch_spec =

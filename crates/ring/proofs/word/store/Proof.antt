@@ -8,15 +8,15 @@ use Rattle.bits.proofs.Promises.{store_one, store_two, store_three}
 use Rattle.ring.proofs.word.store.Statement.{statement}
 use Rattle.ring.proofs.word.store.Tie as tie
 
-returns : tie.Need-returns
+returns : tie.Need-returns-then-count-eq1
 returns c = let a = c.before.args in
-    rw c.if1.true (store_one a.ring.now a.first a.word (omega arith))
+    rw c.if-count-eq1.true (store_one a.ring.now a.first a.word (omega arith))
 
-returns-2 : tie.Need-returns-2
+returns-2 : tie.Need-returns-then-count-eq2
 returns-2 c = let a = c.before.before.args in
-    rw c.if2.true (store_two a.ring.now a.first a.word (omega arith))
+    rw c.if-count-eq2.true (store_two a.ring.now a.first a.word (omega arith))
 
-returns-3 : tie.Need-returns-3
+returns-3 : tie.Need-returns
 returns-3 c = let a = c.before.before.args in
     let three : a.count ≡ 3 = omega arith in
     rw three (store_three a.ring.now a.first a.word (omega arith))
