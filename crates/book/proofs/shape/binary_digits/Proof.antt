@@ -6,10 +6,10 @@ use Rattle.book.proofs.DigitsByLeadingZeros.{digits_leading}
 use Rattle.book.proofs.shape.binary_digits.Statement.{statement}
 use Rattle.book.proofs.shape.binary_digits.Tie as tie
 
-cast-result : tie.Need-overflow-cast-result
+cast-result : tie.Need-overflow_cast-result
 cast-result c = omega (arith, leading_le 64 c.args.v)
 
-sub-result : tie.Need-overflow-sub-result
+sub-result : tie.Need-overflow_sub-result
 sub-result c = leading_le 64 c.args.v
 
 returns : tie.Need-returns
