@@ -15,11 +15,6 @@ module _ (c : tie.After-bytes_for) where
 returns : tie.Need-returns-then-count-gt-MOST_FRAMES
 returns c = simp (lt-ltb _ _ c.if-count-gt-MOST_FRAMES.true)
 
-returns-2 : tie.Need-returns-then-bytes-bytes_for
-returns-2 c = let a = (start c.before).args in
-    let short : a.bytes * 8 < a.count = omega arith in
-    simp (le-ltb _ _ c.before.before.if-count-gt-MOST_FRAMES.false, lt-ltb _ _ short)
-
 -- with bits enough the call's own fault decides
 returns-3 : tie.Need-returns-then-own
 returns-3 c = let a = (start c.before.before).args in
@@ -31,5 +26,10 @@ returns-4 c = let a = (start c.before.before).args in
     let long : a.count ≤ a.bytes * 8 = omega arith in
     simp (le-ltb _ _ c.before.before.before.if-count-gt-MOST_FRAMES.false, le-ltb _ _ long, c.if-own.false)
 
+-- the second return is of a length that passed the first test, with too few bits for it
 pub call_spec : {M : Type 1} → statement M
-call_spec = tie.close (tie.spec returns (λ c κs. search rules) returns-2 returns-3 returns-4)
+call_spec = tie.close (tie.spec returns (λ c κs. search rules)
+    (λ c. let a = (start c.before).args in
+    let short : a.bytes * 8 < a.count = omega arith in
+    simp (le-ltb _ _ c.before.before.if-count-gt-MOST_FRAMES.false, lt-ltb _ _ short))
+    returns-3 returns-4)

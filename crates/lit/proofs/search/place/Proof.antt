@@ -22,10 +22,6 @@ found c = let s = c.before.before.before.before.before in
     ap (λ (n : ℕ). s.args.spot.at * 8 + n) c.in_byte.ensures
     ∙ found_at s.requires.3 s.args.count s.requires.0 s.requires.1 (omega arith)
 
-returns-2 : tie.Need-returns-then-count-place
-returns-2 c = let s = c.before.before.before.before.before.before in
-    (found_behind s.requires.3 s.args.count s.requires.0 s.requires.1 _ (found c.before) c.if-count-place.true, omega arith)
-
 returns-3 : tie.Need-returns
 returns-3 c = let s = c.before.before.before.before.before.before in
     (found_frame s.requires.3 s.args.count s.requires.0 s.requires.1 _ (found c.before) (omega arith), omega arith)
@@ -41,5 +37,6 @@ place_spec =
     (λ c κs. search rules)
     (λ c. search rules)
     (λ c. omega arith)
-    returns-2
+    (λ c. let s = c.before.before.before.before.before.before in
+    (found_behind s.requires.3 s.args.count s.requires.0 s.requires.1 _ (found c.before) (omega arith), omega arith))
     returns-3)
