@@ -46,7 +46,7 @@ fn kept_more(book: Book) -> u64
 }
 
 // What closing a block leaves: the carry, and the slot that is written next.
-#[derive(Drop)]
+#[derive(Clone, Copy)]
 pub(crate) struct Closed {
     pub(crate) carry: u64,
     pub(crate) head: u64,

@@ -10,7 +10,7 @@ use crate::shape::Shape;
 use crate::{Book, slots};
 
 // Where the walk stops: behind `blocks` blocks. `total` is the carry with D times their slots, `quotient` that of the oldest.
-#[derive(Drop)]
+#[derive(Clone, Copy)]
 struct Stop {
     blocks: u64,
     total: u64,

@@ -24,7 +24,7 @@ pub mod verdicts;
 
 // L, n and D, which opening sets; the carry R, the phase p, kept and head, which adding changes; and the resting mark: 0, or the book rests.
 #[repr(C)]
-#[derive(Drop)]
+#[derive(Clone, Copy)]
 pub struct Book {
     pub bound: u64,
     pub length: u64,
@@ -38,7 +38,7 @@ pub struct Book {
 
 // A refusal number, 0 for none, and the record to go on with.
 #[repr(C)]
-#[derive(Drop)]
+#[derive(Clone, Copy)]
 pub struct Updated {
     pub refusal: u8,
     pub book: Book,
@@ -46,7 +46,7 @@ pub struct Updated {
 
 // A refusal number, 0 for none; with ITEM_TOO_LARGE the place, from 1, of the first count above the bound, else 0; and the record to go on with.
 #[repr(C)]
-#[derive(Drop)]
+#[derive(Clone, Copy)]
 pub struct Ran {
     pub refusal: u8,
     pub place: u64,
@@ -55,7 +55,7 @@ pub struct Ran {
 
 // A refusal number, 0 for none, and a window, which is 0 at a refusal.
 #[repr(C)]
-#[derive(Drop)]
+#[derive(Clone, Copy)]
 pub struct Window {
     pub refusal: u8,
     pub window: u64,
@@ -63,7 +63,7 @@ pub struct Window {
 
 // A refusal number, 0 for none, and a figure, which is 0 at a refusal.
 #[repr(C)]
-#[derive(Drop)]
+#[derive(Clone, Copy)]
 pub struct Figure {
     pub refusal: u8,
     pub figure: u64,
@@ -71,7 +71,7 @@ pub struct Figure {
 
 // A refusal number, 0 for none, and the figures of two windows, which are 0 at a refusal.
 #[repr(C)]
-#[derive(Drop)]
+#[derive(Clone, Copy)]
 pub struct Figures {
     pub refusal: u8,
     pub shorter: u64,

@@ -16,7 +16,7 @@ const LARGEST_LENGTH: u64 = 4096;
 
 // c, the items of a block; s, the slots; z, the largest quotient; b, the bits of a slot; B, the bytes of the ring.
 #[repr(C)]
-#[derive(Drop)]
+#[derive(Clone, Copy)]
 pub struct Shape {
     pub block: u64,
     pub slots: u64,
@@ -27,7 +27,7 @@ pub struct Shape {
 
 // A refusal number, 0 for none, and the numbers, which are 0 at a refusal.
 #[repr(C)]
-#[derive(Drop)]
+#[derive(Clone, Copy)]
 pub struct Shaped {
     pub refusal: u8,
     pub shape: Shape,

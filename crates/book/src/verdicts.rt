@@ -4,7 +4,7 @@ ghost use Rattle.book.specs.Verdict.{verdict_of, verdict_now};
 
 use crate::{Book, resting};
 
-#[derive(Drop)]
+#[derive(Clone, Copy)]
 pub enum Verdict {
     Live(u64),
     Frozen(u64),
@@ -13,14 +13,14 @@ pub enum Verdict {
 }
 
 // What the page is told: the window that was asked for, and the verdict with its figure.
-#[derive(Drop)]
+#[derive(Clone, Copy)]
 pub struct Notice {
     pub window: u64,
     pub verdict: Verdict,
 }
 
 // A notice, or the number of the refusal.
-#[derive(Drop)]
+#[derive(Clone, Copy)]
 pub enum Ruling {
     Told(Notice),
     Refused(u8),

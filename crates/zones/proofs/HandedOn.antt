@@ -1,6 +1,6 @@
--- What the two public calls share: each hands the records, the ring bytes, some counts and a round on to `go_round`, and knows of it only that it
--- meets its contract. The two `&mut` slices go at their own lifetimes, shares and ghost names: what `go_round` says of their last lists is what the
--- public call says of them at exit.
+-- What a walk by hand of a caller of `go_round` needs, as of the two public calls: it hands the records, the ring bytes, some counts and a round on to
+-- `go_round`, and knows of it only that it meets its contract. The two `&mut` slices go at their own lifetimes, shares and ghost names: what
+-- `go_round` says of their last lists is what the caller says of them at exit. The proofs of the two calls need none of it.
 -- Assumes nothing.
 use mathlib.Core.Path.{◌≡◌, refl}
 use Prim.Native.Nat.{ℕ, ◌<◌, ◌^◌}
@@ -15,13 +15,14 @@ use prog.Memory.{Memory}
 use prog.Routine.{Routine}
 use types.Logic.{Logic, sem}
 use contract.Monad.{Fun, fact}
-use types.Kit.{Item, ‵, raw, some, given, later, ◌⊛◌, mean, ⋆, ◌$◌, ◌∵◌, !, qed, move, keep, use1, split, join, pick, fsplit, fjoin, feq_l, frame, await, updating, now as at_once, show, check, done}
+use types.Kit.{Item, ‵, raw, some, given, later, ◌⊛◌, mean, ⋆, ◌$◌, ◌∵◌, !, qed, move, keep, drop, use1, split, join, pick, fsplit, fjoin, feq_l, frame, await, updating, now as at_once, show, check, done}
 use denote.RattleType.{owns}
 use denote.Laws.{Is}
 use denote.Plain.{uint_Makes}
 use denote.Builtin.{u8, u64}
+use denote.MutBor.{MutBor}
 use denote.Ref.{Bor}
-use denote.Slice.{MutSlice, ShrSlice, finally, shr_slice_vals}
+use denote.Slice.{MutSlice, ShrSlice, finally, mut_slice_vals, shr_slice_vals}
 use denote.Steps.{owned, heard, nothing}
 use denote.Triple.Spec.{triple_of}
 use denote.Triple.Statement.{Contract}
@@ -54,23 +55,23 @@ module _ {M : Type 1} (𝓤 : Ura M) where
     GoRound = triple_of 𝓛 go_round_lem.signature (go_round_lem.spec 𝓛 mem run)
 
     -- three lifetimes with their shares, the three slices, and the round with its machine value
-    module _ (κz κr κc : Lft) (qz qr qc : Share) (zones : Bor (List Book)) (rings counts : Bor (List ℕ)) (start : Round) (v : Val) where
+    module _ (κz κr κc : Lft) (qz qr qc : Share) (zones : MutBor (List Book)) (rings : MutBor (List ℕ)) (counts : Bor (List ℕ)) (start : Round) (v : Val) where
       -- all that is handed on
       abbrev pub lent : List (Item 𝓤)
       lent = tokens κz κr κc qz qr qc
-          ∷ ‵ ((MutSlice (named 0) κz B.the_row).own_val zones (shr_slice_vals zones)) ∷ ‵ ((MutSlice (named 1) κr u8).own_val rings (shr_slice_vals rings))
+          ∷ ‵ ((MutSlice (named 0) κz B.the_row).own_val zones (mut_slice_vals zones)) ∷ ‵ ((MutSlice (named 1) κr u8).own_val rings (mut_slice_vals rings))
           ∷ ‵ ((ShrSlice (named 2) κc u64).own_val counts (shr_slice_vals counts)) ∷ ‵ ((R.the_row).own_val start (v ∷ [])) ∷ []
 
       -- the lifetimes, and the arguments
       abbrev κs : Lft × (Lft × (Lft × Unit {0}))
       κs = (κz, (κr, (κc, tt)))
 
-      abbrev args : Bor (List Book) × (Bor (List ℕ) × (Bor (List ℕ) × (Round × Unit {0})))
+      abbrev args : MutBor (List Book) × (MutBor (List ℕ) × (Bor (List ℕ) × (Round × Unit {0})))
       args = (zones, (rings, (counts, (start, tt))))
 
       -- what `go_round`'s triple binds outside
       abbrev pub to_go_round : GoRound.Ghost
-      to_go_round = ((κs, (qz, (qr, (qc, tt))), tt, args, (shr_slice_vals zones, (shr_slice_vals rings, (shr_slice_vals counts, (v ∷ [], tt))))), tt)
+      to_go_round = ((κs, (qz, (qr, (qc, tt))), tt, args, (mut_slice_vals zones, (mut_slice_vals rings, (shr_slice_vals counts, (v ∷ [], tt))))), tt)
 
       -- where every turn finds what it asks, it is what `go_round` asks
       pub handed_on : RoundReady zones.now rings.now counts.now start → ent 𝓤 (⋆ 𝓛 lent) (GoRound.pre to_go_round)
@@ -109,9 +110,9 @@ module _ {M : Type 1} (𝓤 : Ura M) where
           await ! tt $ pick ! (λ r. split ! $ move ! (1 ∷ []) $
           use1 𝓛 (some (λ (ws : List Book × (List ℕ × (Unit {0} × (Unit {0} × Unit {0})))).
           ‵ (lasts go_round_lem.ended κs args ws) ⊛ raw (fact 𝓤 (SaysRow r ws.0 ws.1.0)))) (id⊢ 𝓤 _) $ pick ! (λ ws.
-          split ! $ move ! (1 ∷ []) $ heard ! (SaysRow r ws.0 ws.1.0) (λ e. fsplit ! $ fsplit ! $ move ! (1 ∷ []) $ feq_l ! (λ lz.
+          split ! $ move ! (1 ∷ []) $ heard ! (SaysRow r ws.0 ws.1.0) (λ e. fsplit ! $ fsplit ! $ move ! (1 ∷ []) $ drop ! $ fsplit ! $ move ! (1 ∷ []) $ feq_l ! (λ lz.
           -- [the last records; what is said of the others; the tokens and the result]
-          move ! (1 ∷ []) $ fsplit ! $ fsplit ! $ move ! (1 ∷ []) $ feq_l ! (λ lr.
+          move ! (1 ∷ []) $ fsplit ! $ fsplit ! $ move ! (1 ∷ []) $ drop ! $ fsplit ! $ move ! (1 ∷ []) $ feq_l ! (λ lr.
           -- [the last ring bytes; true; the last records; the tokens and the result]
           move ! (3 ∷ []) $ split ! $ at_once ! $
           show ! (λ (r' : Zoned). ex 𝓤 (λ (zs : List Book). ex 𝓤 (λ (bs : List ℕ). mean 𝓛 (Comes w r' zs bs)))) r $

@@ -1,5 +1,5 @@
--- The structs of this crate's walks by hand: the machine value of each, what holds of one that is at its own machine value, and that it fits
--- a local of its type.
+-- The structs of this crate for walks by hand: the machine value of each, what holds of one that is at its own machine value, and that it fits
+-- a local of its type. The crate's own proofs need none of it.
 -- Assumes nothing.
 use mathlib.Core.Path.{subst}
 use Prim.Native.Nat.{◌<◌, ◌^◌}

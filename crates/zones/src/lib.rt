@@ -15,7 +15,7 @@ mod round;
 
 // A refusal number, 0 for none; with NO_BOOK, BOOK_RESTS and ITEM_TOO_LARGE the number of the zone that it is for, from 0, else 0.
 #[repr(C)]
-#[derive(Drop)]
+#[derive(Clone, Copy)]
 pub struct Zoned {
     pub refusal: u8,
     pub zone: u64,

@@ -11,7 +11,7 @@ use refusals::{BAD_ZONES, BOOK_RESTS, ITEM_TOO_LARGE, NO_BOOK, RING_TOO_SHORT};
 const MOST_ZONES: usize = 96;
 
 // Where a round stands.
-#[derive(Drop)]
+#[derive(Clone, Copy)]
 pub(crate) struct Round {
     // turns in all
     pub(crate) turns: usize,

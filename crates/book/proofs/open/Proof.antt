@@ -21,7 +21,7 @@ use Rattle.book.proofs.open.Statement.{statement}
 use Rattle.book.proofs.open.Tie as tie
 
 -- once L, n and D are judged
-module _ (c : tie.After-derive) where
+module _ (c : tie.After-derive-shaped) where
   abbrev start : tie.Start
   start = c.before.before
 
@@ -37,85 +37,85 @@ module _ (c : tie.After-derive) where
   abbrev call : Call Updated (List ℕ)
   call = open_call start.args.bound start.args.length start.args.tolerance lent
 
-  told : c.derive.result.refusal ≡ first_of numbers
-  told = shape_refusal start.args.bound start.args.length start.args.tolerance c.derive.ensures
+  told : c.derive-shaped.result.refusal ≡ first_of numbers
+  told = shape_refusal start.args.bound start.args.length start.args.tolerance c.derive-shaped.ensures
 
-  refused : (c.derive.result.refusal ≡ 0 → ⊥) → c.derive.result.refusal ≡ refusal_of call
+  refused : (c.derive-shaped.result.refusal ≡ 0 → ⊥) → c.derive-shaped.result.refusal ≡ refusal_of call
   unfolding open_call
-  refused ne = first_stops numbers (room_fault needed (List.length lent) ∷ []) c.derive.result.refusal told ne
+  refused ne = first_stops numbers (room_fault needed (List.length lent) ∷ []) c.derive-shaped.result.refusal told ne
 
-  module _ (none : c.derive.result.refusal ≡ 0) where
-    known : Ranges start.args.bound start.args.length start.args.tolerance × (c.derive.result.shape ≡ shape_of start.args.bound start.args.length start.args.tolerance)
-    known = shape_known start.args.bound start.args.length start.args.tolerance c.derive.ensures none
+  module _ (none : c.derive-shaped.result.refusal ≡ 0) where
+    known : Ranges start.args.bound start.args.length start.args.tolerance × (c.derive-shaped.result.shape ≡ shape_of start.args.bound start.args.length start.args.tolerance)
+    known = shape_known start.args.bound start.args.length start.args.tolerance c.derive-shaped.ensures none
 
-    bytes_is : c.derive.result.shape.bytes ≡ needed
+    bytes_is : c.derive-shaped.result.shape.bytes ≡ needed
     bytes_is = ap (λ (s : Shape). s.bytes) known.1
 
     decided : {n : ℕ} → n ≡ first_of (room_fault needed (List.length lent) ∷ []) → n ≡ refusal_of call
     unfolding open_call
     decided e = e ∙ sym (first_goes_on numbers (room_fault needed (List.length lent) ∷ []) (sym told ∙ none))
 
-derive-requires : tie.Need-derive-requires
+derive-requires : tie.Need-derive-shaped-requires
 derive-requires c κs = search rules
 
-fresh-requires : tie.Need-fresh-requires
+fresh-requires : tie.Need-fresh-zeros-requires
 fresh-requires c κs = search rules
 
-returns : tie.Need-returns
+returns : tie.Need-returns-then-shaped-ne0
 unfolding open_call
 returns c = let p = c.before.before.before in
-    let ne = c.before.if1.true in (
-      ap (λ (b : Book). record { refusal = p.derive.result.refusal; book = b }) c.fresh.ensures ∙ result_refused (call p) (refused p ne) ne,
+    let ne = c.before.if-shaped-ne0.true in (
+      ap (λ (b : Book). record { refusal = p.derive-shaped.result.refusal; book = b }) c.fresh-zeros.ensures ∙ result_refused (call p) (refused p ne) ne,
       left_refused (call p) (refused p ne) ne,
     )
 
 count-requires : tie.Need-count-requires
 count-requires c κs = search rules
 
-fresh-requires-2 : tie.Need-fresh-requires-2
+fresh-requires-2 : tie.Need-fresh-zeros-requires-then-count-shape
 fresh-requires-2 c κs = search rules
 
 -- once the ring's room is judged
-module _ (c : tie.After-struct-known2) where
-  abbrev passed : tie.Else1
+module _ (c : tie.After-struct_known-2-1) where
+  abbrev passed : tie.Else-shaped-ne0
   passed = c.before.before.before
 
-  abbrev judged : tie.After-derive
+  abbrev judged : tie.After-derive-shaped
   judged = passed.before.before
 
-returns-2 : tie.Need-returns-2
+returns-2 : tie.Need-returns-then-count-shape
 unfolding open_call
 returns-2 c = let r = c.before.before in
     let p = judged r in
-    let none = (passed r).if1.false in
+    let none = (passed r).if-shaped-ne0.false in
     let short = lt-ltb (List.length (lent p)) (needed p) (omega (arith, bytes_is p none)) in
     let found : ring_too_short ≡ refusal_of (call p) = decided p none (rw short) in
     let ne : ring_too_short ≡ 0 → ⊥ = λ e. omega arith in (
-      ap (λ (b : Book). record { refusal = ring_too_short; book = b }) c.fresh2.ensures ∙ result_refused (call p) found ne,
+      ap (λ (b : Book). record { refusal = ring_too_short; book = b }) c.fresh-zeros-then-count-shape.ensures ∙ result_refused (call p) found ne,
       left_refused (call p) found ne,
     )
 
 clear-requires : tie.Need-clear-requires
 clear-requires c κs = let r = c.before.before in
     let p = judged r in
-    let k = known p (passed r).if1.false in
+    let k = known p (passed r).if-shaped-ne0.false in
     let a = (start p).args in
-    rw k.1 (book_lent a.bound a.length a.tolerance (List.length (lent p)) k.0 (omega (arith, bytes_is p (passed r).if1.false)))
+    rw k.1 (book_lent a.bound a.length a.tolerance (List.length (lent p)) k.0 (omega (arith, bytes_is p (passed r).if-shaped-ne0.false)))
 
-fresh-requires-3 : tie.Need-fresh-requires-3
+fresh-requires-3 : tie.Need-fresh-book-requires
 fresh-requires-3 c κs = search rules
 
-same_length : tie.Need-same-length
+same_length : tie.Need-shape_of-ring
 same_length c = search rules
 
-returns-3 : tie.Need-returns-3
+returns-3 : tie.Need-returns
 unfolding open_call
 returns-3 c = let cleared_ring = c.before.before.before in
     let r = cleared_ring.before.before.before in
     let p = judged r in
-    let none = (passed r).if1.false in
+    let none = (passed r).if-shaped-ne0.false in
     let found : 0 ≡ refusal_of (call p) = decided p none (rw (le-ltb (List.length (lent p)) (needed p) (omega (arith, bytes_is p none)))) in (
-      ap (λ (b : Book). record { refusal = 0; book = b }) c.fresh3.ensures ∙ result_taken (call p) found refl,
+      ap (λ (b : Book). record { refusal = 0; book = b }) c.fresh-book.ensures ∙ result_taken (call p) found refl,
       cleared_ring.clear.ensures ∙ ap (λ (s : Shape). cleared s.width s.slots (lent p)) (known p none).1 ∙ left_taken (call p) found refl,
     )
 

@@ -13,7 +13,7 @@ use Rattle.book.proofs.run.Statement.{statement}
 use Rattle.book.proofs.run.Tie as tie
 
 -- once the book is judged
-module _ (c : tie.After-takes) where
+module _ (c : tie.After-takes-judged) where
   abbrev start : tie.Start
   start = c.before.before.before.before
 
@@ -23,64 +23,64 @@ module _ (c : tie.After-takes) where
   abbrev counts : List ℕ
   counts = start.args.counts.now
 
-  judged : JudgedFirst book start.args.ring.now c.takes.result (counts_fault book counts ∷ [])
+  judged : JudgedFirst book start.args.ring.now c.takes-judged.result (counts_fault book counts ∷ [])
       (run_call book start.args.ring.now counts)
   unfolding run_call
-  judged = judged_first _ _ _ _ _ refl c.before.count.ensures c.takes.ensures
+  judged = judged_first _ _ _ _ _ refl c.before.count.ensures c.takes-judged.ensures
 
 -- once all counts were looked at
-module _ (c : tie.After-place-above) where
-  abbrev passed : tie.Else1
+module _ (c : tie.After-place_above-place) where
+  abbrev passed : tie.Else-judged-ne0
   passed = c.before
 
-  abbrev asked : tie.After-takes
+  abbrev asked : tie.After-takes-judged
   asked = passed.before.before
 
 -- and none is above L
-module _ (c : tie.Else2) where
-  abbrev looked : tie.After-place-above
+module _ (c : tie.Else-place-ne0) where
+  abbrev looked : tie.After-place_above-place
   looked = c.before
 
   none : any_above (book (asked looked)).bound (counts (asked looked)) ≡ false
-  none = place_0 (book (asked looked)).bound (counts (asked looked)) (sym looked.place-above.ensures ∙ c.if2.left)
+  none = place_0 (book (asked looked)).bound (counts (asked looked)) (sym looked.place_above-place.ensures ∙ c.if-place-ne0.false)
 
 count-requires : tie.Need-count-requires
 count-requires c κs = search rules
 
-takes-requires : tie.Need-takes-requires
+takes-requires : tie.Need-takes-judged-requires
 takes-requires c κs = search rules
 
-returns : tie.Need-returns
+returns : tie.Need-returns-then-judged-ne0
 unfolding run_call
 returns c = let p = c.before.before in
-    let back = (judged p).refused c.if1.taken in
-    let nowhere = judged_no_place (book p) p.before.count.result (counts p) p.takes.ensures.refusal_is in
-    (ap (λ (place : ℕ). record { refusal = p.takes.result.refusal; place = place; book = book p }) (sym nowhere) ∙ back.0, back.1)
+    let back = (judged p).refused c.if-judged-ne0.true in
+    let nowhere = judged_no_place (book p) p.before.count.result (counts p) p.takes-judged.ensures.refusal_is in
+    (ap (λ (place : ℕ). record { refusal = p.takes-judged.result.refusal; place = place; book = book p }) (sym nowhere) ∙ back.0, back.1)
 
-place-above-requires : tie.Need-place-above-requires
-place-above-requires c κs = ((judged c.before.before).ready c.if1.left).usable.sound.ranges.bound_high
+place-above-requires : tie.Need-place_above-place-requires
+place-above-requires c κs = ((judged c.before.before).ready c.if-judged-ne0.false).usable.sound.ranges.bound_high
 
-returns-2 : tie.Need-returns-2
+returns-2 : tie.Need-returns-then-place-ne0
 unfolding run_call
 returns-2 c = let p = c.before in
     let q = asked p in
-    let above = place_some (book q).bound (counts q) (λ e. c.if2.taken (p.place-above.ensures ∙ e)) in
-    let back = (judged q).own_refused (passed p).if1.left item_too_large (rw above) (λ e. omega arith) in
-    (ap (λ (place : ℕ). record { refusal = item_too_large; place = place; book = book q }) p.place-above.ensures ∙ back.0, back.1)
+    let above = place_some (book q).bound (counts q) (λ e. c.if-place-ne0.true (p.place_above-place.ensures ∙ e)) in
+    let back = (judged q).own_refused (passed p).if-judged-ne0.false item_too_large (rw above) (λ e. omega arith) in
+    (ap (λ (place : ℕ). record { refusal = item_too_large; place = place; book = book q }) p.place_above-place.ensures ∙ back.0, back.1)
 
-add-all-requires : tie.Need-add-all-requires
+add-all-requires : tie.Need-add_all-next-requires
 add-all-requires c κs = let all = c.before.before in
-    ((judged (asked (looked all))).ready (passed (looked all)).if1.left, none all)
+    ((judged (asked (looked all))).ready (passed (looked all)).if-judged-ne0.false, none all)
 
-same_length : tie.Need-same-length
+same_length : tie.Need-shape_of-ring
 same_length c = search rules
 
-returns-3 : tie.Need-returns-3
+returns-3 : tie.Need-returns
 unfolding run_call
 returns-3 c = let added = c.before.before in
     let all = added.before.before.before in
-    let given = (judged (asked (looked all))).taken (passed (looked all)).if1.left (rw (none all)) in
-    (ap (λ (b : Book). record { refusal = 0; place = 0; book = b }) added.add_all_lem.ensures.0 ∙ given.0, added.add_all_lem.ensures.1 ∙ given.1)
+    let given = (judged (asked (looked all))).taken (passed (looked all)).if-judged-ne0.false (rw (none all)) in
+    (ap (λ (b : Book). record { refusal = 0; place = 0; book = b }) added.add_all-next.ensures.0 ∙ given.0, added.add_all-next.ensures.1 ∙ given.1)
 
 pub run_spec : {M : Type 1} → statement M
 run_spec =

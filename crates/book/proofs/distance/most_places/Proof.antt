@@ -11,20 +11,20 @@ later : (book : Book) (blocks : ℕ) → (blocks ≡ 0 → ⊥) → block_of boo
 later book zero ne = absurd (ne refl)
 later book (suc blocks) ne = refl
 
-sub-result : tie.Need-overflow-sub-result
+sub-result : tie.Need-overflow_sub-result
 sub-result c = search rules
 
-returns : tie.Need-returns
-returns c = rw c.before.requires.1 (later c.before.args.book c.before.args.blocks c.if1.true)
+returns : tie.Need-returns-then-blocks-ne0
+returns c = rw c.before.requires.1 (later c.before.args.book c.before.args.blocks c.if-blocks-ne0.true)
 
-sub-result-2 : tie.Need-overflow-sub-result-2
+sub-result-2 : tie.Need-overflow_sub-result-else-book-eq0
 sub-result-2 c = search rules
 
-returns-2 : tie.Need-returns-2
-returns-2 c = rw c.before.before.if1.false (omega arith)
+returns-2 : tie.Need-returns-then-book-eq0
+returns-2 c = rw c.before.before.if-blocks-ne0.false (omega arith)
 
-returns-3 : tie.Need-returns-3
-returns-3 c = rw c.before.before.before.if1.false
+returns-3 : tie.Need-returns-else-book-eq0
+returns-3 c = rw c.before.before.before.if-blocks-ne0.false
 
 pub most_places_spec : {M : Type 1} → statement M
 most_places_spec = tie.close (tie.spec sub-result returns sub-result-2 returns-2 returns-3)

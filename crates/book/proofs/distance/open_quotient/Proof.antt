@@ -6,10 +6,10 @@ use Rattle.book.proofs.StepsInRange.{carry_low}
 use Rattle.book.proofs.distance.open_quotient.Statement.{statement}
 use Rattle.book.proofs.distance.open_quotient.Tie as tie
 
-returns : tie.Need-returns
+returns : tie.Need-returns-then-book
 returns c = sym (div-eq_of_lt (omega arith))
 
-returns-2 : tie.Need-returns-2
+returns-2 : tie.Need-returns-else-book
 returns-2 c = let s = c.before.before in
     sym (div-eq_of_lt-le {k = 1} s.args.book.tolerance (omega arith) (omega (arith, carry_low s.args.book s.requires)))
 

@@ -9,25 +9,25 @@ use Rattle.book.proofs.judge.known.Statement.{statement}
 use Rattle.book.proofs.judge.known.Tie as tie
 
 -- once L, n and D are passed: they are in their ranges, and the numbers are the book's
-module _ (c : tie.Else1) where
+module _ (c : tie.Else-shaped-ne0) where
   abbrev judged : Book
   judged = c.before.before.before.before.args.book
 
-  known : Ranges judged.bound judged.length judged.tolerance × (c.before.before.before.derive.result.shape ≡ shape_for judged)
-  known = shape_known judged.bound judged.length judged.tolerance c.before.before.before.derive.ensures (omega arith)
+  known : Ranges judged.bound judged.length judged.tolerance × (c.before.before.before.derive-shaped.result.shape ≡ shape_for judged)
+  known = shape_known judged.bound judged.length judged.tolerance c.before.before.before.derive-shaped.ensures (omega arith)
 
-derive-requires : tie.Need-derive-requires
+derive-requires : tie.Need-derive-shaped-requires
 derive-requires c κs = search rules
 
-returns : tie.Need-returns
+returns : tie.Need-returns-then-shaped-ne0
 returns c = let b = c.before.before.before.before.args.book in
-    let told = shape_refusal b.bound b.length b.tolerance c.before.before.before.derive.ensures in
+    let told = shape_refusal b.bound b.length b.tolerance c.before.before.before.derive-shaped.ensures in
     record { refusal_is = no_ranges b told (λ e. omega arith); shape_is = λ e. absurd (omega arith) }
 
 state-requires : tie.Need-state-requires
 state-requires c κs = known c
 
-returns-2 : tie.Need-returns-2
+returns-2 : tie.Need-returns
 returns-2 c = let p = c.before in
     record { refusal_is = c.state.ensures ∙ state_decides (judged p) (known p).0; shape_is = λ e. (known p).1 }
 

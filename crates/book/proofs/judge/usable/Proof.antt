@@ -12,8 +12,8 @@ use Rattle.book.proofs.judge.usable.Statement.{statement}
 use Rattle.book.proofs.judge.usable.Tie as tie
 
 -- once the record is passed: the numbers are the book's
-module _ (c : tie.Else1) where
-  abbrev judged : tie.After-known
+module _ (c : tie.Else-known-ne0) where
+  abbrev judged : tie.After-known-known
   judged = c.before.before.before
 
   abbrev book : Book
@@ -23,30 +23,30 @@ module _ (c : tie.Else1) where
   lent = judged.before.args.lent
 
   passed : first_of (record_faults book) ≡ 0
-  passed = sym judged.known.ensures.refusal_is ∙ c.if1.false
+  passed = sym judged.known-known.ensures.refusal_is ∙ c.if-known-ne0.false
 
-  bytes_is : judged.known.result.shape.bytes ≡ bytes_of book
-  bytes_is = ap (λ (s : Shape). s.bytes) (judged.known.ensures.shape_is c.if1.false)
+  bytes_is : judged.known-known.result.shape.bytes ≡ bytes_of book
+  bytes_is = ap (λ (s : Shape). s.bytes) (judged.known-known.ensures.shape_is c.if-known-ne0.false)
 
-known-requires : tie.Need-known-requires
+known-requires : tie.Need-known-known-requires
 known-requires c κs = search rules
 
-returns : tie.Need-returns
+returns : tie.Need-returns-then-known-ne0
 returns c = let k = c.before.before.before in
     let s = k.before.args in
-    judged_refused s.book s.lent [] k.known.result (no_record s.book s.lent k.known.ensures.refusal_is c.if1.true) c.if1.true
+    judged_refused s.book s.lent [] k.known-known.result (no_record s.book s.lent k.known-known.ensures.refusal_is c.if-known-ne0.true) c.if-known-ne0.true
 
-returns-2 : tie.Need-returns-2
+returns-2 : tie.Need-returns-then-lent-shape
 returns-2 c = let p = c.before.before in
     let short : lent p < bytes_of (book p) = omega (arith, bytes_is p) in
     judged_refused (book p) (lent p) [] _ (no_room (book p) (lent p) (passed p) short) (λ e. omega arith)
 
-returns-3 : tie.Need-returns-3
+returns-3 : tie.Need-returns
 returns-3 c = let p = c.before.before in
     let passes = book_passes (book p) (lent p) (passed p) (omega (arith, bytes_is p)) in
     record {
-      refusal_is = p.if1.false ∙ passes;
-      ready = λ e. record { usable = usable_found (book p) (lent p) passes; shape_is = (judged p).known.ensures.shape_is e };
+      refusal_is = p.if-known-ne0.false ∙ passes;
+      ready = λ e. record { usable = usable_found (book p) (lent p) passes; shape_is = (judged p).known-known.ensures.shape_is e };
     }
 
 pub usable_spec : {M : Type 1} → statement M

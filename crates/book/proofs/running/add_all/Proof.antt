@@ -6,136 +6,136 @@ use Rattle.book.proofs.RunTurns.{Going, going_start, carry_high, part_small, par
 use Rattle.book.proofs.running.add_all.Statement.{statement}
 use Rattle.book.proofs.running.add_all.Tie as tie
 
-abbrev invariant-loop : tie.invariant-loop
+abbrev invariant-loop : tie.invariant-loop-room
 invariant-loop book shape ring₀ counts carry₀ head₀ room₀ at₀ ring carry head room at = Going book shape ring₀ counts ring carry head room at
 
-abbrev decreases-loop : tie.decreases-loop
+abbrev decreases-loop : tie.decreases-loop-room
 decreases-loop book shape ring₀ counts carry₀ head₀ room₀ at₀ ring carry head room at = length counts - at
 
 -- the start, from where the record is known, and from the loop
-abbrev begun : tie.After-struct-known invariant-loop decreases-loop → tie.Start invariant-loop decreases-loop
+abbrev begun : tie.After-struct_known-1 invariant-loop decreases-loop → tie.Start invariant-loop decreases-loop
 begun c = c.before.before.before
 
-abbrev start : tie.At-loop invariant-loop decreases-loop → tie.Start invariant-loop decreases-loop
+abbrev start : tie.At-loop-room invariant-loop decreases-loop → tie.Start invariant-loop decreases-loop
 start c = begun c.before.before.before
 
 -- where the loop ended, from where its room is a number of the book; that place, from where the rest of the counts is one too; and from the end
-abbrev ended : tie.After-count invariant-loop decreases-loop → tie.After-loop invariant-loop decreases-loop
+abbrev ended : tie.After-count invariant-loop decreases-loop → tie.After-loop-room invariant-loop decreases-loop
 ended c = c.before.before.before
 
-abbrev counted : tie.After-count2 invariant-loop decreases-loop → tie.After-count invariant-loop decreases-loop
+abbrev counted : tie.After-count-2 invariant-loop decreases-loop → tie.After-count invariant-loop decreases-loop
 counted c = c.before.before
 
 abbrev counted-last : tie.After-with invariant-loop decreases-loop → tie.After-count invariant-loop decreases-loop
 counted-last c = counted c.before.before.before
 
-sub-index : tie.Need-overflow-sub-index invariant-loop decreases-loop
+sub-index : tie.Need-overflow_sub-shape invariant-loop decreases-loop
 sub-index c = let s = begun c.before in
-    omega (arith, s.pre.0.usable.sound.phase_high, (ready_block s.pre.0).0)
+    omega (arith, s.requires.0.usable.sound.phase_high, (ready_block s.requires.0).0)
 
-index-requires : tie.Need-index-requires invariant-loop decreases-loop
+index-requires : tie.Need-index-room-requires invariant-loop decreases-loop
 index-requires c κs = search rules
 
-loop-holds : tie.Need-loop-init invariant-loop decreases-loop
+loop-holds : tie.Need-loop-room-init invariant-loop decreases-loop
 loop-holds c = let s = begun c.before.before in
-    going_start s.pre.0 s.pre.1 c.index.ensures
+    going_start s.requires.0 s.requires.1 c.index-room.ensures
 
-sub-loop : tie.Need-overflow-sub-loop invariant-loop decreases-loop
-sub-loop c = c.loop.invariant.within
+sub-loop : tie.Need-overflow_sub-counts invariant-loop decreases-loop
+sub-loop c = c.loop-room.invariant.within
 
-add-gather : tie.Need-overflow-add-gather invariant-loop decreases-loop
+add-gather : tie.Need-overflow_add-at invariant-loop decreases-loop
 add-gather c = search rules
 
-mul-gather : tie.Need-overflow-mul-gather invariant-loop decreases-loop
+mul-gather : tie.Need-offset_bounds-counts-at invariant-loop decreases-loop
 mul-gather c = search rules
 
-sub-gather : tie.Need-overflow-sub-gather invariant-loop decreases-loop
+sub-gather : tie.Need-slice_bounds-gather-count invariant-loop decreases-loop
 sub-gather c = search rules
 
-part-gather-start : tie.Need-slice-bounds-gather-start invariant-loop decreases-loop
+part-gather-start : tie.Need-slice_bounds-gather-start invariant-loop decreases-loop
 part-gather-start c = search rules
 
-part-gather-end : tie.Need-slice-bounds-gather-end invariant-loop decreases-loop
+part-gather-end : tie.Need-slice_bounds-gather-end invariant-loop decreases-loop
 part-gather-end c = search rules
 
-gather-requires : tie.Need-gather-requires invariant-loop decreases-loop
-gather-requires c κs = let l = c.before.before.loop in
+gather-requires : tie.Need-gather-whole-requires invariant-loop decreases-loop
+gather-requires c κs = let l = c.before.before.loop-room in
     let g = l.invariant in
-    (carry_high g, part_small g (l.at + l.room - l.at), part_few g c.before.loop-test.true)
+    (carry_high g, part_small g (l.at + l.room - l.at), part_few g c.before.loop-room-test.true)
 
-close-requires : tie.Need-close-requires invariant-loop decreases-loop
+close-requires : tie.Need-close-closed-requires invariant-loop decreases-loop
 close-requires c κs =
     let test = c.before.before.before in
-    let g = test.before.loop.invariant in (
+    let g = test.before.loop-room.invariant in (
       ready_lent g.ready,
       ready_head g.ready,
       g.ready.usable.sound.ranges.tolerance_low,
-      quotient_fits g test.loop-test.true c.before.gather.ensures,
+      quotient_fits g test.loop-room-test.true c.before.gather-whole.ensures,
     )
 
-add_at : tie.Need-overflow-add-at invariant-loop decreases-loop
+add_at : tie.Need-overflow_add-at-in-loop-room invariant-loop decreases-loop
 add_at c = search rules
 
-index-requires-2 : tie.Need-index-requires-2 invariant-loop decreases-loop
+index-requires-2 : tie.Need-index-room-requires-in-loop-room invariant-loop decreases-loop
 index-requires-2 c κs = search rules
 
-loop-less : tie.Need-loop-smaller invariant-loop decreases-loop
+loop-less : tie.Need-loop-room-smaller invariant-loop decreases-loop
 loop-less c = search rules
 
-loop-again : tie.Need-loop-preserved invariant-loop decreases-loop
+loop-again : tie.Need-loop-room-preserved invariant-loop decreases-loop
 loop-again c =
     let closed = c.before.before.before in
     let gathered = closed.before.before in
     let test = gathered.before.before in
-    going_step test.before.loop.invariant test.loop-test.true gathered.gather.ensures c.index2.ensures closed.close.ensures.1
-    closed.close.ensures.0
+    going_step test.before.loop-room.invariant test.loop-room-test.true gathered.gather-whole.ensures c.index-room-in-loop-room.ensures closed.close-closed.ensures.1
+    closed.close-closed.ensures.0
 
-mul-gather-2 : tie.Need-overflow-mul-gather-2 invariant-loop decreases-loop
+mul-gather-2 : tie.Need-offset_bounds-counts-at-2 invariant-loop decreases-loop
 mul-gather-2 c = search rules
 
-sub-gather-2 : tie.Need-overflow-sub-gather-2 invariant-loop decreases-loop
+sub-gather-2 : tie.Need-slice_bounds-gather-count-2 invariant-loop decreases-loop
 sub-gather-2 c = search rules
 
-part-gather-start-2 : tie.Need-slice-bounds-gather-start-2 invariant-loop decreases-loop
+part-gather-start-2 : tie.Need-slice_bounds-gather-start-2 invariant-loop decreases-loop
 part-gather-start-2 c = search rules
 
-part-gather-end-2 : tie.Need-slice-bounds-gather-end-2 invariant-loop decreases-loop
+part-gather-end-2 : tie.Need-slice_bounds-gather-end-2 invariant-loop decreases-loop
 part-gather-end-2 c = search rules
 
-gather-requires-2 : tie.Need-gather-requires-2 invariant-loop decreases-loop
+gather-requires-2 : tie.Need-gather-left-requires invariant-loop decreases-loop
 gather-requires-2 c κs = let at = c.before.before in
-    let g = at.loop.invariant in
-    (carry_high g, part_small g (length (start at).args.counts.now - at.loop.at), rest_few g c.before.loop-test.false)
+    let g = at.loop-room.invariant in
+    (carry_high g, part_small g (length (start at).args.counts.now - at.loop-room.at), rest_few g c.before.loop-room-test.false)
 
 count-requires : tie.Need-count-requires invariant-loop decreases-loop
 count-requires c κs = search rules
 
-sub-phase : tie.Need-overflow-sub-phase invariant-loop decreases-loop
-sub-phase c = let g = (ended c.before).before.loop.inv in omega (arith, c.before.count.ensures, g.room_high)
+sub-phase : tie.Need-overflow_sub-phase invariant-loop decreases-loop
+sub-phase c = let g = (ended c.before).before.loop-room.invariant in omega (arith, c.before.count.ensures, g.room_high)
 
-sub-count : tie.Need-overflow-sub-count invariant-loop decreases-loop
+sub-count : tie.Need-overflow_sub-counts-2 invariant-loop decreases-loop
 sub-count c = search rules
 
 count-requires-2 : tie.Need-count-requires-2 invariant-loop decreases-loop
 count-requires-2 c κs = search rules
 
-add-phase : tie.Need-overflow-add-phase invariant-loop decreases-loop
+add-phase : tie.Need-overflow_add-phase invariant-loop decreases-loop
 add-phase c =
     let e = ended (counted c) in
-    let g = e.before.loop.inv in
-    omega (arith, c.count2.ensures, e.loop-test.left, g.room_high, (ready_block g.ready).2)
+    let g = e.before.loop-room.invariant in
+    omega (arith, c.count-2.ensures, e.loop-room-test.false, g.room_high, (ready_block g.ready).2)
 
 count-requires-3 : tie.Need-count-requires-3 invariant-loop decreases-loop
 count-requires-3 c κs = search rules
 
-kept-with-requires : tie.Need-kept-with-requires invariant-loop decreases-loop
-kept-with-requires c κs = let s = start (ended (counted c.before)).before in s.pre.0.usable.sound.kept_high
+kept-with-requires : tie.Need-kept_with-kept-requires invariant-loop decreases-loop
+kept-with-requires c κs = let s = start (ended (counted c.before)).before in s.requires.0.usable.sound.kept_high
 
 with-requires : tie.Need-with-requires invariant-loop decreases-loop
 with-requires c κs = search rules
 
-same_length : tie.Need-same-length invariant-loop decreases-loop
-same_length c = (ended (counted-last c)).before.loop.inv.long
+same_length : tie.Need-shape_of-ring invariant-loop decreases-loop
+same_length c = (ended (counted-last c)).before.loop-room.invariant.long
 
 returns : tie.Need-returns invariant-loop decreases-loop
 returns c =
@@ -143,9 +143,9 @@ returns c =
     let k = counted-last c in
     let e = ended k in
     let s = start e.before in
-    let phase = ap₂ (λ (m n : ℕ). s.args.shape.block - m + n) k.count.ensures three.before.count2.ensures in
-    let kept = c.before.kept-with.ensures ∙ ap (λ (m : ℕ). min s.args.book.length (s.args.book.kept + m)) three.count3.ensures in
-    let done = going_end e.before.loop.inv e.loop-test.left k.before.gather2.ensures phase kept in
+    let phase = ap₂ (λ (m n : ℕ). s.args.shape.block - m + n) k.count.ensures three.before.count-2.ensures in
+    let kept = c.before.kept_with-kept.ensures ∙ ap (λ (m : ℕ). min s.args.book.length (s.args.book.kept + m)) three.count-3.ensures in
+    let done = going_end e.before.loop-room.invariant e.loop-room-test.false k.before.gather-left.ensures phase kept in
     (c.with.ensures ∙ done.0, done.1)
 
 pub add_all_spec : {M : Type 1} → statement M

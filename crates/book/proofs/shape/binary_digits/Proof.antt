@@ -1,15 +1,15 @@
 -- `book::shape::binary_digits` meets its contract: a number has 64 digits less its leading zeros.
 -- Assumes nothing.
-use Rattle.std.proofs.Common.{◌≡◌, sym, refl, ap, ◌∙◌, ap₂, arith}
+use Rattle.std.proofs.Common.{arith}
 use lib.Count.{leading_le}
 use Rattle.book.proofs.DigitsByLeadingZeros.{digits_leading}
 use Rattle.book.proofs.shape.binary_digits.Statement.{statement}
 use Rattle.book.proofs.shape.binary_digits.Tie as tie
 
-cast-result : tie.Need-overflow-cast-result
+cast-result : tie.Need-overflow_cast-result
 cast-result c = omega (arith, leading_le 64 c.args.v)
 
-sub-result : tie.Need-overflow-sub-result
+sub-result : tie.Need-overflow_sub-result
 sub-result c = leading_le 64 c.args.v
 
 returns : tie.Need-returns

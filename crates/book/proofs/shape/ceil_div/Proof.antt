@@ -5,10 +5,10 @@ use Rattle.std.proofs.Common.{rules}
 use Rattle.book.proofs.shape.ceil_div.Statement.{statement}
 use Rattle.book.proofs.shape.ceil_div.Tie as tie
 
-sub-div : tie.Need-overflow-sub-div
+sub-div : tie.Need-overflow_sub-b
 sub-div c = search rules
 
-add-div : tie.Need-overflow-add-div
+add-div : tie.Need-overflow_add-a
 add-div c = search rules
 
 div-requires : tie.Need-div-requires

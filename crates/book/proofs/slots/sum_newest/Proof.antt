@@ -1,6 +1,6 @@
 -- `book::slots::sum_newest` meets its contract: the ring is lent whole and has the slots, so that its call sums them.
 -- Assumes nothing.
-use Rattle.std.proofs.Common.{◌≡◌, sym, ap, ◌∙◌, rules}
+use Rattle.std.proofs.Common.{ap, ◌∙◌, rules}
 use Rattle.ring.specs.declared.Answer.{Answer}
 use Rattle.book.proofs.RingCalls.{ring_sums}
 use Rattle.book.proofs.slots.sum_newest.Statement.{statement}
@@ -26,8 +26,8 @@ returns c = let asked = c.before in
     let ringed = asked.before.before in
     let s = ringed.before.before.before in
     ap (λ (r : Answer). r.value) c.sum.ensures
-    ∙ ring_sums s.args.shape.width s.args.shape.slots s.args.ring.now s.requires.0 ringed.before.index.ensures ringed.index2.ensures
-    s.args.next s.requires.1 asked.before.index3.ensures s.args.j s.requires.2 asked.index4.ensures
+    ∙ ring_sums s.args.shape.width s.args.shape.slots s.args.ring.now s.requires.0 ringed.before.index.ensures ringed.index-2.ensures
+    s.args.next s.requires.1 asked.before.index-3.ensures s.args.j s.requires.2 asked.index-4.ensures
 
 pub sum_newest_spec : {M : Type 1} → statement M
 sum_newest_spec =

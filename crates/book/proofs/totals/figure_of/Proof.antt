@@ -9,22 +9,22 @@ use Rattle.book.proofs.totals.figure_of.Statement.{statement}
 use Rattle.book.proofs.totals.figure_of.Tie as tie
 
 -- the window is within the open block
-abbrev open-start : tie.After-struct-known3 → tie.Start
+abbrev open-start : tie.After-struct_known-then-window-book-2-1 → tie.Start
 open-start c = c.before.before.before.before.before
 
 -- it is longer
-module _ (c : tie.After-ceil-div) where
+module _ (c : tie.After-ceil_div-j) where
   abbrev start : tie.Start
   start = c.before.before.before.before.before
 
-  longer : Longer start.args.book start.args.shape start.args.ring.now start.args.window c.ceil-div.result
-  longer = record { ready = start.pre.0; longer = c.before.before.if1.false; kept = start.pre.1; j_is = c.ceil-div.ensures }
+  longer : Longer start.args.book start.args.shape start.args.ring.now start.args.window c.ceil_div-j.result
+  longer = record { ready = start.requires.0; longer = c.before.before.if-window-book.false; kept = start.requires.1; j_is = c.ceil_div-j.ensures }
 
 -- that place, from where the slots are read
-abbrev needed : tie.After-get → tie.After-ceil-div
+abbrev needed : tie.After-get-last → tie.After-ceil_div-j
 needed c = c.before.before.before
 
-div-reckon : tie.Need-nonzero-div-reckon
+div-reckon : tie.Need-nonzero_div-book
 div-reckon c = search rules
 
 reckon-requires : tie.Need-reckon-requires
@@ -37,58 +37,58 @@ reckon-requires c κs =
       omega (arith, carry_top b s, div-le_self b.carry b.tolerance),
     )
 
-returns : tie.Need-returns
+returns : tie.Need-returns-then-window-book
 returns c =
     let s = open-start c.before in
     c.reckon.ensures
-    ∙ figure_open s.args.book (held_in s.args.book s.args.ring.now) s.args.window c.before.before.before.if1.true
+    ∙ figure_open s.args.book (held_in s.args.book s.args.ring.now) s.args.window c.before.before.before.if-window-book.true
 
-sub-items : tie.Need-overflow-sub-items
+sub-items : tie.Need-overflow_sub-items
 sub-items c = search rules
 
-ceil-div-requires : tie.Need-ceil-div-requires
+ceil-div-requires : tie.Need-ceil_div-j-requires
 ceil-div-requires c κs = let p = c.before.before.before.before.requires in ready_divides p.0 (omega (arith, p.1))
 
-sub-sum-newest : tie.Need-overflow-sub-sum-newest
+sub-sum-newest : tie.Need-overflow_sub-j
 sub-sum-newest c = (slots_needed (longer c)).0
 
-sum-newest-requires : tie.Need-sum-newest-requires
+sum-newest-requires : tie.Need-sum_newest-newer-requires
 sum-newest-requires c κs =
     let ready = (start c).requires.0 in
     (ready_lent ready, ready_head ready, omega (arith, slots_needed (longer c)))
 
 place-requires : tie.Need-place-requires
 place-requires c κs =
-    let ready = (start c.before).pre.0 in
+    let ready = (start c.before).requires.0 in
     (ready_head ready, (slots_needed (longer c.before)).1, (ready_lent ready).slots_high)
 
-get-requires : tie.Need-get-requires
+get-requires : tie.Need-get-last-requires
 get-requires c κs =
     let s = start c.before.before in
-    let head = ready_head s.pre.0 in
-    (ready_lent s.pre.0, rw c.place.ensures (newest_lt s.args.shape.slots s.args.book.head c.before.before.ceil-div.result head))
+    let head = ready_head s.requires.0 in
+    (ready_lent s.requires.0, rw c.place.ensures (newest_lt s.args.shape.slots s.args.book.head c.before.before.ceil_div-j.result head))
 
-add-reckon : tie.Need-overflow-add-reckon
-add-reckon c = omega (arith, parts_top (longer (needed c)) c.before.before.sum-newest.ensures c.before.place.ensures c.get.ensures)
+add-reckon : tie.Need-overflow_add-newer
+add-reckon c = omega (arith, parts_top (longer (needed c)) c.before.before.sum_newest-newer.ensures c.before.place.ensures c.get-last.ensures)
 
-mul-reckon : tie.Need-overflow-mul-reckon
+mul-reckon : tie.Need-overflow_mul-j
 mul-reckon c = omega (arith, slots_cover (longer (needed c.before)))
 
-sub-reckon : tie.Need-overflow-sub-reckon
+sub-reckon : tie.Need-overflow_sub-j-2
 sub-reckon c = (slots_cover (longer (needed c.before))).0
 
 reckon-requires-2 : tie.Need-reckon-requires-2
 reckon-requires-2 c κs =
     let g = c.before in
     let k = longer (needed g) in
-    let parts = parts_top k g.before.before.sum-newest.ensures g.before.place.ensures g.get.ensures in
+    let parts = parts_top k g.before.before.sum_newest-newer.ensures g.before.place.ensures g.get-last.ensures in
     (k.ready.usable.sound, omega arith, omega (arith, slots_cover k), omega arith)
 
-returns-2 : tie.Need-returns-2
+returns-2 : tie.Need-returns
 returns-2 c =
     let g = c.before.before in
-    c.reckon2.ensures
-    ∙ figure_slots (longer (needed g)) g.before.before.sum-newest.ensures g.before.place.ensures g.get.ensures
+    c.reckon-2.ensures
+    ∙ figure_slots (longer (needed g)) g.before.before.sum_newest-newer.ensures g.before.place.ensures g.get-last.ensures
 
 pub figure_of_spec : {M : Type 1} → statement M
 figure_of_spec =

@@ -15,29 +15,29 @@ module _ (c : tie.Start) where
   less_top =
       omega (arith, times_top c.args.book c.requires.0 1 1 (omega arith), mul-le-mul {n₂ = 268435456} {m₂ = 1073741824} c.requires.2 c.requires.3)
 
-mul-whole : tie.Need-overflow-mul-whole
+mul-whole : tie.Need-overflow_mul-whole
 mul-whole c = omega (arith, whole_top c.before)
 
-add-whole : tie.Need-overflow-add-whole
+add-whole : tie.Need-overflow_add-whole
 add-whole c = omega (arith, whole_top c.before.before)
 
-sub-less : tie.Need-overflow-sub-less
+sub-less : tie.Need-overflow_sub-less
 sub-less c = search rules
 
-mul-less : tie.Need-overflow-mul-less
+mul-less : tie.Need-overflow_mul-less
 mul-less c = search rules
 
-mul-less-2 : tie.Need-overflow-mul-less-2
+mul-less-2 : tie.Need-overflow_mul-less-2
 mul-less-2 c = omega (arith, less_top c.before.before.before.before)
 
-add-less : tie.Need-overflow-add-less
+add-less : tie.Need-overflow_add-less
 add-less c = omega (arith, less_top c.before.before.before.before)
 
-returns : tie.Need-returns
+returns : tie.Need-returns-then-whole-less
 unfolding reckoned
 returns c = omega arith
 
-returns-2 : tie.Need-returns-2
+returns-2 : tie.Need-returns-else-whole-less
 unfolding reckoned
 returns-2 c = omega arith
 

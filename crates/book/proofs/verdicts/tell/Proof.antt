@@ -7,13 +7,13 @@ use Rattle.book.proofs.VerdictRule.{tells_resting}
 use Rattle.book.proofs.verdicts.tell.Statement.{statement}
 use Rattle.book.proofs.verdicts.tell.Tie as tie
 
-returns : tie.Need-returns
-returns c = let a = c.before.before.args in tells_resting a.book a.amount a.figure c.if1.true (omega arith)
+returns : tie.Need-returns-then-book-ne-AWAKE
+returns c = let a = c.before.before.args in tells_resting a.book a.amount a.figure c.if-book-ne-AWAKE.true (omega arith)
 
 rule-requires : tie.Need-rule-requires
 rule-requires c κs = search rules
 
-returns-2 : tie.Need-returns-2
+returns-2 : tie.Need-returns
 unfolding verdict_now
 returns-2 c = rw (awake_passes c.before.before.before.args.book (omega arith)) c.rule.ensures
 

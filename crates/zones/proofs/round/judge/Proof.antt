@@ -28,7 +28,7 @@ settled_as next told =
     }
 
 -- once one zone more is judged
-module _ (c : tie.After-judge-one) where
+module _ (c : tie.After-judge_one-next) where
   abbrev start : tie.Start
   start = c.before.before
 
@@ -36,33 +36,33 @@ module _ (c : tie.After-judge-one) where
   round = start.args.round
 
   abbrev next : Round
-  next = c.judge-one.result
+  next = c.judge_one-next.result
 
   -- it stands one place further, among as many zones
   place_is : next.place ≡ round.place + 1
-  place_is = ap (λ (r : Round). r.place) c.judge-one.ensures
+  place_is = ap (λ (r : Round). r.place) c.judge_one-next.ensures
 
   zones_is : next.zones ≡ round.zones
-  zones_is = ap (λ (r : Round). r.zones) c.judge-one.ensures
+  zones_is = ap (λ (r : Round). r.zones) c.judge_one-next.ensures
 
-judge-one-requires : tie.Need-judge-one-requires
+judge-one-requires : tie.Need-judge_one-next-requires
 judge-one-requires c κs = search rules
 
-returns : tie.Need-returns
+returns : tie.Need-returns-then-next
 returns c = let j = c.before.before in
-    j.judge-one.ensures ∙ sym (rw (lt-ltb ((round j).place + 1) (round j).zones (omega (arith, c.if1.true, place_is j, zones_is j))))
+    j.judge_one-next.ensures ∙ sym (rw (lt-ltb ((round j).place + 1) (round j).zones (omega (arith, c.if-next.true, place_is j, zones_is j))))
 
-settle-requires : tie.Need-settle-requires
+settle-requires : tie.Need-settle-told-requires
 settle-requires c κs = search rules
 
-returns-2 : tie.Need-returns-2
+returns-2 : tie.Need-returns
 returns-2 c =
     let s = c.before in
     let t = s.before in
-    let j = t.before.before in
-    ap (settled_as (next j)) s.settle.ensures
-    ∙ ap (λ (r : Round). judged_last r (start j).args.lent) j.judge-one.ensures
-    ∙ sym (rw (le-ltb ((round j).place + 1) (round j).zones (omega (arith, t.if1.false, place_is j, zones_is j))))
+    let j = t.before.before.before in
+    ap (settled_as (next j)) s.settle-told.ensures
+    ∙ ap (λ (r : Round). judged_last r (start j).args.lent) j.judge_one-next.ensures
+    ∙ sym (rw (le-ltb ((round j).place + 1) (round j).zones (omega (arith, t.if-next.false, place_is j, zones_is j))))
 
 pub judge_spec : {M : Type 1} → statement M
 judge_spec = tie.close (tie.spec judge-one-requires returns settle-requires returns-2)

@@ -4,17 +4,17 @@ use borrow.Author.Rules.{rules}
 use borrow.Author.Tests.{lt-ltb, le-ltb}
 use Prim.Native.Nat.{ℕ, ◌+◌}
 use mathlib.Core.Bool.{false, cond}
-use mathlib.Core.Logic.{⊎_elim}
 use mathlib.Core.Path.{◌≡◌, sym, ap, ◌∙◌}
 use lib.Dec.{ltb}
 use Rattle.book.specs.declared.Book.{Book}
 use Rattle.zones.specs.declared.round.Round.{Round}
 use Rattle.zones.specs.Turns.{bytes_for}
 use Rattle.zones.proofs.round.judge_one.Statement.{statement}
+use Rattle.zones.proofs.round.judge_one.Lts.{then-round, else-round}
 use Rattle.zones.proofs.round.judge_one.Tie as tie
 
 -- where the bytes are counted
-module _ (c : tie.Joined1) where
+module _ (c : tie.Joined-round) where
   abbrev counted : tie.After-bytes
   counted = c.before.before.before
 
@@ -29,21 +29,23 @@ module _ (c : tie.Joined1) where
   at_is = ap (λ (n : ℕ). round.at + n) counted.bytes.ensures.0
 
   -- those of the zones below the first count's are as many as long as the zone is one of them, and then stay
-  before_is : c.if1.before ≡ cond (ltb round.place round.low) (round.at + bytes_for old) round.before
+  before_is : c.if-round.before ≡ cond (ltb round.place round.low) (round.at + bytes_for old) round.before
   before_is =
-      ⊎_elim (λ w. w.1 ∙ at_is ∙ sym (rw (lt-ltb round.place round.low w.0.taken)))
-      (λ w. w.1 ∙ sym (rw (le-ltb round.place round.low w.0.left))) c.if1.branch
+      elim c.if-round.branch [
+        | then-round w ↦ w.before-is ∙ at_is ∙ sym (rw (lt-ltb round.place round.low w.if-round.true))
+        | else-round w ↦ w.before-is ∙ sym (rw (le-ltb round.place round.low w.if-round.false))
+      ]
 
 bytes-requires : tie.Need-bytes-requires
 bytes-requires c κs = search rules
 
-add_at : tie.Need-overflow-add-at
+add_at : tie.Need-overflow_add-at
 add_at c = search rules
 
-tell-requires : tie.Need-tell-requires
+tell-requires : tie.Need-tell-told-requires
 tell-requires c κs = search rules
 
-add-t7 : tie.Need-overflow-add-t7
+add-t7 : tie.Need-overflow_add-result
 add-t7 c = search rules
 
 returns : tie.Need-returns
@@ -56,7 +58,7 @@ returns c = let j = c.before.before in λ i.
       before = before_is j i;
       at = at_is j i;
       adding = false;
-      told = c.before.tell.ensures i;
+      told = c.before.tell-told.ensures i;
       book = old j;
     }
 

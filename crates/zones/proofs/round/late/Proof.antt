@@ -7,30 +7,30 @@ use lib.ListN.{length}
 use Rattle.zones.proofs.round.late.Statement.{statement}
 use Rattle.zones.proofs.round.late.Tie as tie
 
-returns : tie.Need-returns
-returns c = let round = c.before.before.before.args.round in rw (lt-ltb round.place round.low c.if1.true)
+returns : tie.Need-returns-then-round
+returns c = let round = c.before.before.before.args.round in rw (lt-ltb round.place round.low c.if-round.true)
 
-returns-2 : tie.Need-returns-2
+returns-2 : tie.Need-returns-then-counts-j
 returns-2 c =
     let a = c.before.before.before.before.before.args in
-    let behind = le-leb (length a.counts.now) (a.round.place - a.round.low) c.if2.true in
-    rw (le-ltb a.round.place a.round.low c.before.before.if1.false, behind)
+    let behind = le-leb (length a.counts.now) (a.round.place - a.round.low) c.if-counts-j.true in
+    rw (le-ltb a.round.place a.round.low c.before.before.if-round.false, behind)
 
-mul-taking : tie.Need-overflow-mul-taking
+mul-taking : tie.Need-offset_bounds-counts-j
 mul-taking c = search rules
 
-shared-slice-read-taking : tie.Need-shared-slice-read-taking
+shared-slice-read-taking : tie.Need-bounds-counts-j
 shared-slice-read-taking c = search rules
 
 taking-requires : tie.Need-taking-requires
 taking-requires c κs = search rules
 
-returns-3 : tie.Need-returns-3
+returns-3 : tie.Need-returns
 returns-3 c =
     let e = c.before.before in
     let a = e.before.before.before.before.before.args in
-    let counted = lt-leb (length a.counts.now) (a.round.place - a.round.low) e.if2.false in
-    rw (le-ltb a.round.place a.round.low e.before.before.if1.false, counted) c.taking.ensures
+    let counted = lt-leb (length a.counts.now) (a.round.place - a.round.low) e.if-counts-j.false in
+    rw (le-ltb a.round.place a.round.low e.before.before.if-round.false, counted) c.taking.ensures
 
 pub late_spec : {M : Type 1} → statement M
 late_spec =

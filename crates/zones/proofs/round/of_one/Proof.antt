@@ -9,16 +9,16 @@ use Rattle.zones.proofs.round.of_one.Tie as tie
 begin-requires : tie.Need-begin-requires
 begin-requires c κs = search rules
 
-returns : tie.Need-returns
+returns : tie.Need-returns-then-zone-zones
 unfolding round_of_one
-returns c = let a = c.before.before.args in rw (lt-ltb a.zone a.zones c.before.if1.true) c.begin.ensures
+returns c = let a = c.before.before.args in rw (lt-ltb a.zone a.zones c.before.if-zone-zones.true) c.begin.ensures
 
-not-begun-requires : tie.Need-not-begun-requires
+not-begun-requires : tie.Need-not_begun-requires
 not-begun-requires c κs = search rules
 
-returns-2 : tie.Need-returns-2
+returns-2 : tie.Need-returns
 unfolding round_of_one
-returns-2 c = let a = c.before.before.args in rw (le-ltb a.zone a.zones c.before.if1.false) c.not_begun_lem.ensures
+returns-2 c = let a = c.before.before.args in rw (le-ltb a.zone a.zones c.before.if-zone-zones.false) c.not_begun.ensures
 
 pub of_one_spec : {M : Type 1} → statement M
 of_one_spec = tie.close (tie.spec begin-requires returns not-begun-requires returns-2)

@@ -20,7 +20,7 @@ use Rattle.zones.proofs.round.take.Statement.{statement}
 use Rattle.zones.proofs.round.take.Tie as tie
 
 -- once the book has added
-module _ (c : tie.After-add) where
+module _ (c : tie.After-add-updated) where
   abbrev counted : tie.After-bytes
   counted = c.before.before.before.before
 
@@ -51,48 +51,48 @@ module _ (c : tie.After-add) where
   lent_is = ap (λ (n : ℕ). take n (drop round.at rings)) (span_is round.at bytes ∙ bytes_is)
 
   -- the record that the book gives, and what it leaves of the stretch
-  book_is : c.add.result.book ≡ (result_of (own_add round old rings start.args.counts.now)).book
-  book_is = ap (λ (u : Updated). u.book) c.add.ensures.0 ∙ ap (λ (l : List ℕ). (result_of (add_call old l item)).book) lent_is
+  book_is : c.add-updated.result.book ≡ (result_of (own_add round old rings start.args.counts.now)).book
+  book_is = ap (λ (u : Updated). u.book) c.add-updated.ensures.0 ∙ ap (λ (l : List ℕ). (result_of (add_call old l item)).book) lent_is
 
-  stretch_is : c.add.new.1.0 ≡ left_of (own_add round old rings start.args.counts.now)
-  stretch_is = c.add.ensures.1 ∙ ap (λ (l : List ℕ). left_of (add_call old l item)) lent_is
+  stretch_is : c.add-updated.new.ring ≡ left_of (own_add round old rings start.args.counts.now)
+  stretch_is = c.add-updated.ensures.1 ∙ ap (λ (l : List ℕ). left_of (add_call old l item)) lent_is
 
   -- as many bytes come back as were lent
-  as_many : length c.add.new.1.0 ≡ bytes
+  as_many : length c.add-updated.new.ring ≡ bytes
   as_many =
-      c.add.auto.1.0 ∙ mid_len round.at (round.at + bytes) rings (omega (arith, bytes_is, start.pre.1)) ∙ span_is round.at bytes
+      c.add-updated.auto.ring ∙ mid_len round.at (round.at + bytes) rings (omega (arith, bytes_is, start.requires.1)) ∙ span_is round.at bytes
 
 bytes-requires : tie.Need-bytes-requires
 bytes-requires c κs = search rules
 
-add-end : tie.Need-overflow-add-end
+add-end : tie.Need-overflow_add-end
 add-end c = search rules
 
-sub-add : tie.Need-overflow-sub-add
+sub-add : tie.Need-slice_bounds-add-count
 sub-add c = search rules
 
-part-add-start : tie.Need-slice-bounds-add-start
+part-add-start : tie.Need-slice_bounds-add-start
 part-add-start c = search rules
 
-part-add-end : tie.Need-slice-bounds-add-end
+part-add-end : tie.Need-slice_bounds-add-end
 part-add-end c = search rules
 
-sub-add-2 : tie.Need-overflow-sub-add-2
+sub-add-2 : tie.Need-overflow_sub-round
 sub-add-2 c = search rules
 
-mul-add : tie.Need-overflow-mul-add
+mul-add : tie.Need-offset_bounds-counts-round
 mul-add c = search rules
 
-shared-slice-read-add : tie.Need-shared-slice-read-add
+shared-slice-read-add : tie.Need-bounds-counts-round
 shared-slice-read-add c = search rules
 
-add-requires : tie.Need-add-requires
+add-requires : tie.Need-add-updated-requires
 add-requires c κs = search rules
 
-add-t10 : tie.Need-overflow-add-t10
+add-t10 : tie.Need-overflow_add-result
 add-t10 c = search rules
 
-same_length : tie.Need-same-length
+same_length : tie.Need-shape_of-rings
 same_length c = search rules
 
 returns : tie.Need-returns
@@ -110,7 +110,7 @@ returns c =
             told = (round a).told;
             book = book_is a i;
           }),
-      put_back (round a).at (bytes a) (rings a) a.add.new.1.0 (as_many a) ∙ ap (with_stretch (rings a) (round a).at) (stretch_is a),
+      put_back (round a).at (bytes a) (rings a) a.add-updated.new.ring (as_many a) ∙ ap (with_stretch (rings a) (round a).at) (stretch_is a),
     )
 
 pub take_spec : {M : Type 1} → statement M
