@@ -1,7 +1,7 @@
 #!/usr/bin/env python3
 """Times `frozen` beside ffmpeg's freezedetect on one stream of 160 x 120 frames, turn about, and prints the ratio.
 
-    python3 bench/beside_ffmpeg.py target/bin/frozen
+    python3 bench/beside_ffmpeg.py crates/frozen/out/frozen
 
 Needs Debian's ffmpeg. The stream is the same each time: fifty frames of noise, fifty with some hundred pixels changed, fifty still.
 """

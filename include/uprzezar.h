@@ -1,7 +1,7 @@
 /*
  * Uprzezar: a small book of frame counts for a camera box, and the reading and comparing of its pictures.
  *
- * C99, and C++. Link target/staticlib/libuprzezar.a, which `rt staticlib uprzezar` writes; it needs nothing but memset, allocates nothing
+ * C99, and C++. Link crates/uprzezar/out/libuprzezar.a, which `rt lib` writes in crates/uprzezar; it needs nothing but memset, allocates nothing
  * and keeps nothing between calls.
  *
  * What you must keep:

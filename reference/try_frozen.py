@@ -2,7 +2,7 @@
 """Holds the program `frozen` to the reference on streams that are too large or too many for the gate.
 
     python3 reference/try_frozen.py                          (runs sample/frozen)
-    python3 reference/try_frozen.py target/bin/frozen        (any words may follow: the command is run as it stands)
+    python3 reference/try_frozen.py crates/frozen/out/frozen        (any words may follow: the command is run as it stands)
 
 Each line tells a kind of stream and how many there were. It ends with status 1 at the first stream whose output is another. The last
 three are of output that cannot be written: nothing may follow a row that got lost.

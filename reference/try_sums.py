@@ -2,7 +2,7 @@
 """Holds the ring's sum of slots of one bit to a count of ones: 1 to 130 slots, every next slot and every number of newest ones. These are
 too many for the gate.
 
-    python3 reference/try_sums.py                            (runs target/bin/vectors, which is for x86-64)
+    python3 reference/try_sums.py                            (runs crates/vectors/out/vectors, which is for x86-64)
     python3 reference/try_sums.py COMMAND ...                (any words: the command is run as it stands, and reads lines as `vectors` does)
 
 Each number of slots is tried with rings all 1 and of chance, of B bytes and of more. It ends with status 1 at the first answer that is another.
@@ -18,7 +18,7 @@ import model
 from calls import call
 from ring_calls import one_bit_rings
 
-COMMAND = sys.argv[1:] or [str(Path(__file__).resolve().parent.parent / "target/bin/vectors")]
+COMMAND = sys.argv[1:] or [str(Path(__file__).resolve().parent.parent / "crates/vectors/out/vectors")]
 MOST = 130
 # numbers of slots given to one start of the program
 STEP = 10

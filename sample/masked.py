@@ -4,7 +4,7 @@
     python3 sample/day.py | python3 sample/masked.py sample/trees.pbm
 
 The mask is a binary PBM; what is black in it does not count. Images are read and compared by the library itself: the program `vectors`
-(rt check vectors) answers one call a line. It ends with status 1 at the first refusal, and names it.
+(built by rt run < /dev/null in crates/vectors) answers one call a line. It ends with status 1 at the first refusal, and names it.
 """
 import sys
 from pathlib import Path

@@ -1,4 +1,4 @@
-"""How the samples ask the proved library: by the program `vectors` (rt check vectors), which answers one call a line.
+"""How the samples ask the proved library: by the program `vectors` (built by rt run < /dev/null in crates/vectors), which answers one call a line.
 
     with proved.started() as program:
         width, height, maxval, used, offset, length = proved.ask(program, "frame 1", "pgm", "503520312031203235352007")
@@ -26,9 +26,9 @@ def stop(message):
 
 def command():
     """How `vectors` is run: on x86-64 as it is, and elsewhere as sample/frozen runs its program, by the emulator of rt's kit."""
-    program = ROOT / "target/bin/vectors"
+    program = ROOT / "crates/vectors/out/vectors"
     if not program.exists():
-        stop(f"the program vectors is not built; in {ROOT} run: rt check vectors")
+        stop(f"the program vectors is not built; in {ROOT}/crates/vectors run: rt run < /dev/null")
     machine = platform.machine()
     if machine == "x86_64":
         return [program]
@@ -51,7 +51,7 @@ def call(program, *words):
     print(*words, file=program.stdin, flush=True)
     answer = program.stdout.readline().split()
     if not answer or answer[0] == "?":
-        stop(f"vectors does not answer the call {words[0]}; build it anew: rt check vectors")
+        stop(f"vectors does not answer the call {words[0]}; build it anew: rt run < /dev/null, in crates/vectors")
     return int(answer[0]), answer[1:]
 
 

@@ -145,7 +145,7 @@ def main():
         kept = imported(t, False)
         def put(m):
             w = m.group()
-            return turned[w] if w in turned and w not in kept else w
+            return turned[w] if odd(w) and w in turned and w not in kept else w
         new = TOKEN.sub(put, t)
         if new != t:
             with open(p, "w", encoding="utf-8") as f:

@@ -1,4 +1,3 @@
 // Rows of bits in bytes, as in a PBM row: definitions in specs/, laws in proofs/. There is no code here.
 
 #![tactic(auto)]
-

@@ -1,6 +1,6 @@
 -- The box's own setting, L 600, n 1,440 and D 3,600: blocks of 6, 240 slots of one bit, 30 bytes (SCOPE, Program).
 -- Assumes nothing.
-use Rattle.std.proofs.Common.{◌≡◌, refl}
+use Rattle.std.proofs.Common.{◌≡◌}
 use Rattle.ring.proofs.Promises.{bytes_are}
 use Rattle.book.specs.Derived.{ceil_div, block_length, slot_count, largest_quotient, digits_within, binary_digits, field_width, bytes_needed}
 use Rattle.book.specs.Shape.{shape_of}

@@ -1,7 +1,7 @@
 -- How many binary digits a number has: the least m with the number below 2^m; and the same from leading zeros.
 -- Assumes nothing.
-use Rattle.std.proofs.Common.{◌≡◌, ℕ, zero, suc, ◌+◌, ◌-◌, ◌*◌, ◌/◌, ◌^◌, ◌<◌, ◌≤◌, ◌⊎◌, sym, refl, ap, ◌∙◌, inl, inr, add_comm, pow-suc, arith, lit<, pow_mono}
-use lib.Count.{count_leading_zeros, leading_unique, leading_le}
+use Rattle.std.proofs.Common.{◌≡◌, ℕ, zero, suc, ◌+◌, ◌-◌, ◌*◌, ◌/◌, ◌^◌, ◌<◌, ◌≤◌, ◌⊎◌, refl, inl, inr, pow-suc, arith, lit<, pow_mono}
+use lib.Count.{count_leading_zeros, leading_unique}
 use Rattle.book.specs.Derived.{digits_within, binary_digits}
 use Rattle.book.proofs.RoundedUp.{le_or_lt}
 

@@ -1,20 +1,17 @@
 -- The walk of "how far back": windows by blocks, the figure at each place of a block, and the window that the walk names.
 -- Assumes nothing.
-use Rattle.std.proofs.Common.{◌≡◌, ℕ, zero, suc, ◌+◌, ◌-◌, ◌*◌, ◌/◌, ◌%◌, ◌<◌, ◌≤◌, min, ◌⊎◌, sym, refl, ap, ◌∙◌, inl, inr, le_trans, mul-le-mul_right, mul_assoc, suc-mul, mul_comm, mul-le-mul_left, le-div_iff_mul-le, zero-mul, div-mul-le_self, arith, le-leb}
+use Rattle.std.proofs.Common.{◌≡◌, ℕ, zero, suc, ◌+◌, ◌-◌, ◌*◌, ◌/◌, ◌<◌, ◌≤◌, min, ◌⊎◌, refl, ap, inl, inr, mul-le-mul_right, suc-mul, le-div_iff_mul-le, div-mul-le_self, arith, le-leb}
 use native.Mathlib.Nat.{lt-div-mul-add}
 use borrow.Author.Tests.{lt-leb}
-use Rattle.ring.specs.Newest.{newest, sum_newest}
 use Rattle.ring.proofs.Promises.{sum_none, sum_more}
 use Rattle.book.specs.declared.Book.{Book}
 use Rattle.book.specs.Derived.{ceil_div}
 use Rattle.book.specs.Record.{block_of, slots_of}
 use Rattle.book.specs.Sound.{Sound}
 use Rattle.book.specs.Figure.{reckoned, slots_for, figure_by, figure_of}
-use Rattle.book.specs.HowFar.{first_reaching}
-use Rattle.book.specs.Stops.{gathered, end_figure, oldest, furthest}
+use Rattle.book.specs.Stops.{end_figure, oldest, furthest}
 use Rattle.book.proofs.RoundedUp.{le_or_lt, ceil_covers, ceil_tight, ceil_is}
 use Rattle.book.proofs.NumbersInRange.{block_low}
-use Rattle.book.proofs.FirstWindowReaching.{first_is, first_none}
 
 module _ (book : Book) (held : ℕ → ℕ) where
   -- window i lies e items before the end of j blocks

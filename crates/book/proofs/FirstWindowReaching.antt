@@ -1,6 +1,6 @@
 -- The first window that reaches v, by what it is: the one that reaches it while none before does.
 -- Assumes nothing.
-use Rattle.std.proofs.Common.{◌≡◌, ℕ, zero, suc, ◌+◌, ◌<◌, ◌≤◌, ◌⊎◌, sym, refl, ap, ◌∙◌, inl, inr, arith, le-leb}
+use Rattle.std.proofs.Common.{◌≡◌, ℕ, zero, suc, ◌+◌, ◌<◌, ◌≤◌, ◌⊎◌, refl, inl, inr, arith, le-leb}
 use borrow.Author.Tests.{lt-leb}
 use Rattle.book.specs.HowFar.{first_reaching}
 use Rattle.book.proofs.RoundedUp.{le_or_lt}

@@ -1,14 +1,13 @@
 -- How far back (promise 3.1), for every record and every ring: the window named is the smallest whose figure reaches v, and 9 comes exactly
 -- where there is none.
 -- Assumes nothing.
-use Rattle.std.proofs.Common.{◌≡◌, ℕ, zero, suc, ◌+◌, ◌<◌, ◌≤◌, ◌⊎◌, List, [], ◌∷◌, ◌++◌, length, sym, refl, ap, ◌∙◌, inl, inr, arith, eq-eqb, ne_eqb}
+use Rattle.std.proofs.Common.{◌≡◌, ℕ, zero, suc, ◌<◌, ◌≤◌, ◌⊎◌, List, [], ◌∷◌, length, sym, refl, ap, ◌∙◌, inl, inr, arith, eq-eqb, ne_eqb}
 use Rattle.refusals.specs.Numbers.{not_reached}
 use Rattle.refusals.specs.First.{first_of}
 use Rattle.refusals.specs.Call.{refusal_of, result_of}
 use Rattle.refusals.proofs.Laws.{first_goes_on}
 use Rattle.refusals.proofs.Calls.{none_refuses, result_taken, result_refused}
 use Rattle.book.specs.declared.Book.{Book}
-use Rattle.book.specs.declared.Window.{Window}
 use Rattle.book.specs.Sound.{Usable}
 use Rattle.book.specs.Figure.{figure}
 use Rattle.book.specs.HowFar.{how_far_back, Smallest, NoWindow, Found}

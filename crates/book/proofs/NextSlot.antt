@@ -1,6 +1,6 @@
 -- Head moving on: the slot before the next one is the old one, and the t-th block's slot is t modulo the slots.
 -- Assumes nothing.
-use Rattle.std.proofs.Common.{◌≡◌, ℕ, ◌+◌, ◌-◌, ◌*◌, ◌/◌, ◌%◌, ◌<◌, sym, ap, ◌∙◌, mod-lt, mod-eq_of_lt, add-one, arith, eq-eqb, ne_eqb}
+use Rattle.std.proofs.Common.{◌≡◌, ℕ, ◌+◌, ◌*◌, ◌/◌, ◌%◌, ◌<◌, sym, ap, ◌∙◌, mod-lt, mod-eq_of_lt, add-one, arith, eq-eqb, ne_eqb}
 use native.Mathlib.Nat.{div-add-mod, mod_self, mul-add-mod_self_left}
 use native.Mathlib.Decide.{ℕ_discrete}
 use Rattle.ring.specs.Newest.{slot_before}

@@ -1,8 +1,8 @@
 -- The derived numbers of a book stay in their ranges.
 -- Assumes nothing.
-use Rattle.std.proofs.Common.{◌≡◌, ℕ, zero, suc, ◌+◌, ◌-◌, ◌*◌, ◌/◌, ◌^◌, ◌<◌, ◌≤◌, max, ◌⊎◌, sym, refl, ap, ◌∙◌, inl, inr, le_trans, mul-le-mul_right, mul_comm, mul-le-mul, mul-le-mul_left, one-mul, le-div_iff_mul-le, div-mul-le_self, arith}
-use native.Mathlib.Nat.{div-eq_of_lt, div-le_of_le-mul, le-max_left, max-le, max-eq_left, max-eq_right, lt-div-mul-add}
-use Rattle.book.specs.Derived.{ceil_div, block_length, slot_count, largest_quotient, binary_digits, field_width}
+use Rattle.std.proofs.Common.{◌≡◌, ℕ, zero, suc, ◌+◌, ◌*◌, ◌/◌, ◌^◌, ◌<◌, ◌≤◌, max, ◌⊎◌, refl, inl, inr, le_trans, mul_comm, mul-le-mul, mul-le-mul_left, le-div_iff_mul-le, div-mul-le_self, arith}
+use native.Mathlib.Nat.{div-eq_of_lt, div-le_of_le-mul, le-max_left, max-le, max-eq_right}
+use Rattle.book.specs.Derived.{block_length, slot_count, largest_quotient, binary_digits, field_width}
 use Rattle.book.specs.Sound.{Ranges}
 use Rattle.book.proofs.RoundedUp.{le_or_lt, ceil_covers, ceil_tight, ceil_le, ceil_low}
 use Rattle.book.proofs.DigitsByLeadingZeros.{digits_high, digits_le}

@@ -1,6 +1,6 @@
 -- Division rounded up, and down, by inequalities.
 -- Assumes nothing.
-use Rattle.std.proofs.Common.{◌≡◌, ℕ, zero, suc, ◌+◌, ◌-◌, ◌*◌, ◌/◌, ◌%◌, ◌<◌, ◌≤◌, ◌⊎◌, inl, inr, mul-le-mul_right, div-lt_iff_lt-mul, mul-le-mul_left, le-div_iff_mul-le, div-mul-le_self, arith}
+use Rattle.std.proofs.Common.{◌≡◌, ℕ, ◌+◌, ◌-◌, ◌*◌, ◌<◌, ◌≤◌, ◌⊎◌, inl, inr, mul-le-mul_right, div-lt_iff_lt-mul, le-div_iff_mul-le, div-mul-le_self, arith}
 use native.Mathlib.Nat.{lt-div-mul-add}
 use native.Mathlib.Decide.{dec_le}
 use Rattle.book.specs.Derived.{ceil_div}

@@ -1,6 +1,6 @@
 -- The numbers of a book in two cases, as the code derives them: D below L, and D at least L.
 -- Assumes nothing.
-use Rattle.std.proofs.Common.{◌≡◌, ℕ, ◌+◌, ◌-◌, ◌*◌, ◌/◌, ◌<◌, ◌≤◌, max, sym, refl, ap, ◌∙◌, mul-le-mul, one-mul, le-div_iff_mul-le, div-mul-le_self, div-one, arith}
+use Rattle.std.proofs.Common.{◌≡◌, ℕ, ◌*◌, ◌/◌, ◌<◌, ◌≤◌, sym, ap, ◌∙◌, mul-le-mul, one-mul, le-div_iff_mul-le, div-mul-le_self, arith}
 use native.Mathlib.Nat.{div-eq_of_lt, max-eq_right}
 use Rattle.ring.specs.Slot.{ring_bytes}
 use Rattle.book.specs.declared.shape.Shape.{Shape}

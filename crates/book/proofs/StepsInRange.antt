@@ -1,6 +1,6 @@
 -- A sound book and its ring: the ring is lent whole, the numbers of the book's steps stay in range, and quotients fit their slots.
 -- Assumes nothing.
-use Rattle.std.proofs.Common.{◌≡◌, ℕ, ◌+◌, ◌-◌, ◌*◌, ◌/◌, ◌^◌, ◌<◌, ◌≤◌, ◌⊎◌, List, length, sym, refl, ap, inl, inr, le_trans, mul-le-mul_right, mul-le-mul, le-div_iff_mul-le, div-mul-le_self, arith, pow_mono}
+use Rattle.std.proofs.Common.{◌≡◌, ℕ, ◌+◌, ◌-◌, ◌*◌, ◌/◌, ◌^◌, ◌<◌, ◌≤◌, ◌⊎◌, List, sym, refl, ap, inl, inr, le_trans, mul-le-mul_right, mul-le-mul, le-div_iff_mul-le, div-mul-le_self, arith, pow_mono}
 use Rattle.ring.specs.Slot.{ring_bytes}
 use Rattle.ring.specs.Lent.{Lent}
 use Rattle.ring.specs.Newest.{sum_newest}

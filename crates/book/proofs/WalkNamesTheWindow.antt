@@ -9,7 +9,7 @@ use Rattle.book.specs.Record.{block_of, slots_of, held_in}
 use Rattle.book.specs.Sound.{Sound}
 use Rattle.book.specs.Judged.{Ready}
 use Rattle.book.specs.Figure.{figure_of}
-use Rattle.book.specs.HowFar.{first_reaching, how_far_back}
+use Rattle.book.specs.HowFar.{how_far_back}
 use Rattle.book.specs.Stops.{end_figure, oldest, furthest, Stopped}
 use Rattle.book.proofs.RoundedUp.{le_or_lt}
 use Rattle.book.proofs.NumbersInRange.{block_low}

@@ -1,6 +1,6 @@
 -- The walk's turns: what holds after each block, and where the walk stops.
 -- Assumes nothing.
-use Rattle.std.proofs.Common.{◌≡◌, ℕ, zero, suc, ◌+◌, ◌-◌, ◌*◌, ◌/◌, ◌^◌, ◌<◌, ◌≤◌, ◌⊎◌, List, length, sym, refl, ap, ◌∙◌, inl, inr, mul-le-mul_right, suc-mul, div-le_self, add-one, arith}
+use Rattle.std.proofs.Common.{◌≡◌, ℕ, zero, suc, ◌+◌, ◌-◌, ◌*◌, ◌/◌, ◌^◌, ◌<◌, ◌≤◌, ◌⊎◌, List, length, sym, ap, ◌∙◌, inl, inr, mul-le-mul_right, suc-mul, div-le_self, add-one, arith}
 use Rattle.ring.specs.Slot.{field}
 use Rattle.ring.specs.Newest.{slot_before, newest, sum_newest}
 use Rattle.ring.proofs.Promises.{sum_none, sum_more, newest_none, newest_more, newest_lt}

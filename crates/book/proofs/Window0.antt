@@ -1,11 +1,10 @@
 -- A window of 0 answers 0 (promises 2.1, B.2): by its figure, and by the call, for every record and every ring that pass 8 and 4.
 -- Assumes nothing.
-use Rattle.std.proofs.Common.{◌≡◌, ℕ, zero, suc, ◌+◌, ◌-◌, ◌*◌, ◌/◌, ◌<◌, ◌≤◌, List, length, sym, refl, ap, ◌∙◌, mul-le-mul_left, arith}
+use Rattle.std.proofs.Common.{◌≡◌, ℕ, zero, suc, ◌+◌, ◌-◌, ◌*◌, ◌/◌, ◌≤◌, List, length, sym, refl, ap, ◌∙◌, mul-le-mul_left, arith}
 use native.Mathlib.Nat.{lt-div-mul-add, sub-zero}
 use Rattle.refusals.specs.Call.{refusal_of, result_of}
 use Rattle.refusals.proofs.Calls.{result_taken}
 use Rattle.book.specs.declared.Book.{Book}
-use Rattle.book.specs.declared.Figure.{Figure}
 use Rattle.book.specs.Record.{held_in}
 use Rattle.book.specs.Sound.{Sound, Usable}
 use Rattle.book.specs.Figure.{reckoned, figure_of}

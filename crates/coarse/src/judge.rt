@@ -11,7 +11,7 @@ const FEWEST_TIMES: u64 = 2;
 const MOST_TIMES: u64 = 16;
 
 // A refusal number, 0 for none, and the bytes that the second ring takes, 0 at a refusal.
-#[derive(Drop)]
+#[derive(Clone, Copy)]
 pub(crate) struct Judged {
     pub(crate) refusal: u8,
     pub(crate) bytes: u64,

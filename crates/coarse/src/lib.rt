@@ -15,7 +15,7 @@ mod tally;
 
 // A refusal number, 0 for none; the bytes that the new ring takes, 0 at a refusal; and the record to go on with.
 #[repr(C)]
-#[derive(Drop)]
+#[derive(Clone, Copy)]
 pub struct Coarser {
     pub refusal: u8,
     pub bytes: u64,

@@ -1,4 +1,3 @@
 // Numbers in decimal digits, written and read: definitions in specs/, theorems in proofs/. There is no code here.
 
 #![tactic(auto)]
-

@@ -1,5 +1,5 @@
 -- The first fault of SCOPE, Images, said of the bytes alone (promise B.7): no reading is spoken of here.
-use Rattle.std.specs.Prelude.{ℕ, ◌+◌, ◌≤◌, ◌<◌, true, false, List, [], ◌∷◌, ◌++◌, ◌≡◌, length, take}
+use Rattle.std.specs.Prelude.{ℕ, ◌≤◌, ◌<◌, true, false, List, [], ◌∷◌, ◌++◌, ◌≡◌, length, take}
 use Rattle.refusals.specs.Numbers.{wrong_byte, number_out_of_range, image_too_large, ends_too_early, pixel_too_large}
 use Rattle.image.specs.Tests.{Test, failing, any_numbers}
 use Rattle.image.specs.Seen.{limit, visible, bytes_of}

@@ -21,7 +21,7 @@ const LF: u8 = 10;
 const SIGN_BYTES: usize = 2;
 
 // What a step of reading finds: a value, and the bytes used with it. With a refusal both count for nothing.
-#[derive(Drop)]
+#[derive(Clone, Copy)]
 pub(crate) struct Took {
     pub refusal: u8,
     pub value: usize,

@@ -109,7 +109,7 @@ fn one_number(s: &[u8], used: usize, top: usize) -> Took
     let mut at = used;
     let mut value = 0;
     // 1 once a digit was read: as a bool it would take an instruction or two more for each digit.
-    let mut begun = 0;
+    let mut begun: usize = 0;
     loop {
         let took = bytes::next(s, at);
         if took.refusal != 0 {

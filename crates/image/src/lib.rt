@@ -27,7 +27,7 @@ const LARGEST_MAXVAL: usize = 65535;
 
 // The numbers of an image: the raster lies in the bytes from `start` up to `used`. With a refusal all others are 0.
 #[repr(C)]
-#[derive(Drop)]
+#[derive(Clone, Copy)]
 pub struct Numbers {
     pub refusal: u8,
     pub width: usize,

@@ -60,6 +60,7 @@ select_is_lit k (zero ∷ later) pos h =
     let h' : k ≤ ones_of later = omega (arith, ones_dark later) in
     rw (select_dark k later pos h')
     (further 0 later (select_of k later) (select_place k later pos h').0 (select_is_lit k later pos h'))
+select_is_lit zero (suc more ∷ later) pos h = elim pos [ ]
 select_is_lit (suc zero) (suc more ∷ later) pos h = rw (select_lit 0 more later (omega arith)) (omega arith)
 select_is_lit (suc (suc j)) (suc more ∷ later) pos h =
     let h' : suc j ≤ ones_of later = omega (arith, ones_lit more later) in

@@ -38,6 +38,7 @@ select_place k (zero ∷ later) pos h =
     let h' : k ≤ ones_of later = omega (arith, ones_dark later) in
     let own = select_place k later pos h' in
     rw (select_dark k later pos h') (omega arith, omega arith)
+select_place zero (suc more ∷ later) pos h = elim pos [ ]
 select_place (suc zero) (suc more ∷ later) pos h = rw (select_lit 0 more later (omega arith)) (omega arith, omega arith)
 select_place (suc (suc j)) (suc more ∷ later) pos h =
     let h' : suc j ≤ ones_of later = omega (arith, ones_lit more later) in

@@ -1,6 +1,6 @@
 -- Demand 1 (SCOPE, Demands), once for every call of every crate: a result or a numbered refusal, the number exactly that of the first
 -- fault that holds, and a refusal changes nothing. And when a function's statement says what its row says.
-use Rattle.std.specs.Prelude.{ℕ, zero, suc, ◌<◌, Bool, true, false, List, [], ◌∷◌, ◌++◌, ◌⊎◌, ◌≡◌}
+use Rattle.std.specs.Prelude.{ℕ, ◌<◌, true, false, List, [], ◌∷◌, ◌++◌, ◌⊎◌, ◌≡◌}
 use Rattle.refusals.specs.First.{Fault, ◌gives◌}
 use Rattle.refusals.specs.Call.{Call, result_of, left_of}
 

@@ -2,7 +2,7 @@
 -- `Post` is the statement itself, as it stands at the function in src/lib.rt; a ring that is only read is left as it came.
 -- Assumes nothing.
 use Prim.Native.Nat.{ℕ}
-use mathlib.Core.Path.{◌≡◌, refl}
+use mathlib.Core.Path.{refl}
 use contract.Lifetimes.{Lfts}
 use Rattle.refusals.specs.Demand1.{Promised}
 use Rattle.refusals.proofs.Calls.{asks_leaves, promised, tells}

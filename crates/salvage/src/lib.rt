@@ -17,7 +17,7 @@ mod walk;
 
 // A refusal number, 0 for none; how many slots were altered, 0 at a refusal; and the record to go on with.
 #[repr(C)]
-#[derive(Drop)]
+#[derive(Clone, Copy)]
 pub struct Salvaged {
     pub refusal: u8,
     pub count: u64,

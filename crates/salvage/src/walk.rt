@@ -13,7 +13,7 @@ use book::Book;
 use book::shape::Shape;
 
 // How many slots were altered; and u where the newest of them is the u-th newest slot, 0 for none.
-#[derive(Drop)]
+#[derive(Clone, Copy)]
 pub(crate) struct Found {
     pub(crate) count: u64,
     pub(crate) nth: u64,

@@ -21,7 +21,7 @@ mod totals;
 // A refusal number, 0 for none; a figure; and how many fields of the ring and stored sums of the row its rule reads (specs/Rule.antt). All but the
 // refusal are 0 at a refusal.
 #[repr(C)]
-#[derive(Drop)]
+#[derive(Clone, Copy)]
 pub struct Summed {
     pub refusal: u8,
     pub figure: u64,

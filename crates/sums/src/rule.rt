@@ -9,7 +9,7 @@ use crate::row;
 use book::shape::Shape;
 
 // Single fields are read up to `front`, and from `back` on; between them the sum stored at `plus` less the one at `minus`. At 0 none is read.
-#[derive(Drop)]
+#[derive(Clone, Copy)]
 pub(crate) struct Parts {
     pub(crate) front: u64,
     pub(crate) plus: u64,
@@ -18,7 +18,7 @@ pub(crate) struct Parts {
 }
 
 // What is added and taken off for a run, and how many fields and sums were read.
-#[derive(Drop)]
+#[derive(Clone, Copy)]
 pub(crate) struct Reading {
     pub(crate) added: u64,
     pub(crate) taken: u64,
@@ -27,7 +27,7 @@ pub(crate) struct Reading {
 }
 
 // The sum of the newest slots, and how many fields and sums were read for it.
-#[derive(Drop)]
+#[derive(Clone, Copy)]
 pub(crate) struct Newest {
     pub(crate) sum: u64,
     pub(crate) fields: u64,
@@ -41,7 +41,7 @@ pub(crate) fn less(a: u64, b: u64) -> u64
     if a < b { 0 } else { a - b }
 }
 
-fn end_after_lem(slots: u64, slot: u64) -> u64
+fn end_after(slots: u64, slot: u64) -> u64
     requires { slot ≤ 4096 }
     ensures { result ≡ end_after slots slot }
 {
@@ -51,7 +51,7 @@ fn end_after_lem(slots: u64, slot: u64) -> u64
     row::group_end(slots, slot)
 }
 
-fn end_before_lem(slots: u64, slot: u64) -> u64
+fn end_before(slots: u64, slot: u64) -> u64
     ensures { result ≡ end_before slots slot }
 {
     if slot == slots {
@@ -64,8 +64,8 @@ fn split(slots: u64, from: u64, to: u64) -> Parts
     requires { (from ≤ to) × (to ≤ slots) × (slots ≤ 4096) }
     ensures { result ≡ parts_of slots from to }
 {
-    let first = end_after_lem(slots, from);
-    let last = end_before_lem(slots, to);
+    let first = end_after(slots, from);
+    let last = end_before(slots, to);
     if first < last {
         return Parts {
             front: first,

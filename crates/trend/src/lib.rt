@@ -11,7 +11,7 @@ use book::Book;
 
 // A refusal number, 0 for none, and a trend, which is 0 at a refusal.
 #[repr(C)]
-#[derive(Drop)]
+#[derive(Clone, Copy)]
 pub struct Answer {
     pub refusal: u8,
     pub trend: i64,

@@ -17,14 +17,14 @@ pub mod setting;
 mod turns;
 
 // The book, and how many frames have come.
-#[derive(Drop)]
+#[derive(Clone, Copy)]
 pub struct State {
     pub book: Book,
     pub frames: u64,
 }
 
 // What a row says: the state after the frame, the bytes that its image took, and the row's own fields.
-#[derive(Drop)]
+#[derive(Clone, Copy)]
 pub struct Line {
     pub state: State,
     pub used: usize,
@@ -34,7 +34,7 @@ pub struct Line {
 }
 
 // What comes of the bytes at hand: a row, a refusal that ends the run, the end of the input, or that more bytes are needed.
-#[derive(Drop)]
+#[derive(Clone, Copy)]
 pub enum Turn {
     Row(Line),
     Refused(u8),
@@ -43,14 +43,14 @@ pub enum Turn {
 }
 
 // The state before the first frame, or a refusal with a record of zeros.
-#[derive(Drop)]
+#[derive(Clone, Copy)]
 pub struct Started {
     pub refusal: u8,
     pub state: State,
 }
 
 // What a step gives: its turn, and how many bytes of its row were written; or a refusal, and then the turn tells it too.
-#[derive(Drop)]
+#[derive(Clone, Copy)]
 pub struct Stepped {
     pub refusal: u8,
     pub turn: Turn,

@@ -11,16 +11,16 @@ use Rattle.image.proofs.AnswersTell.{field_link, sides_told}
 use Rattle.image.proofs.header.Statement.{statement}
 use Rattle.image.proofs.header.Tie as tie
 
-magic-requires : tie.Need-magic-requires
+magic-requires : tie.Need-magic-sign-requires
 magic-requires c κs = search rules
 
-number-requires : tie.Need-number-requires
+number-requires : tie.Need-number-width-requires
 number-requires c κs = search rules
 
-number-requires-2 : tie.Need-number-requires-2
+number-requires-2 : tie.Need-number-height-requires
 number-requires-2 c κs = search rules
 
-number-requires-3 : tie.Need-number-requires-3
+number-requires-3 : tie.Need-number-maxval-requires
 number-requires-3 c κs = search rules
 
 behind-requires : tie.Need-behind-requires
@@ -31,12 +31,12 @@ unfolding numbers_of pgm number_fields
 returns c = let sized = c.before.before in
     let signed = sized.before.before in
     let s = signed.before.before.args.s.now in
-    let width = sized.before.number in
-    let height = sized.number2 in
-    let maxval = c.before.number3 in
+    let width = sized.before.number-width in
+    let height = sized.number-height in
+    let maxval = c.before.number-maxval in
     c.behind.ensures
-    ∙ sym (sides_told named pgm s signed.magic.result width.result height.result _ _ (up_to largest_maxval ∷ []) refl
-    signed.magic.ensures width.ensures.0 height.ensures.0
+    ∙ sym (sides_told named pgm s signed.magic-sign.result width.result height.result _ _ (up_to largest_maxval ∷ []) refl
+    signed.magic-sign.ensures width.ensures.0 height.ensures.0
     ∙ field_link refused_with (λ value numbers start rest. named (with_raster pgm s (width.result.value ∷ value ∷ numbers) start)) s
     height.result maxval.result (up_to largest_maxval) [] maxval.ensures.0)
 

@@ -11,26 +11,26 @@ use Rattle.image.proofs.ReadingLies.{reading_lies}
 use Rattle.image.proofs.raster.Statement.{statement}
 use Rattle.image.proofs.raster.Tie as tie
 
-lies : (c : tie.After-header) → Lies c.before.before.args.s.now c.header.result.start c.header.result.used
-lies c = rw c.header.ensures (reading_lies c.before.before.args.s.now)
+lies : (c : tie.After-header-numbers) → Lies c.before.before.args.s.now c.header-numbers.result.start c.header-numbers.result.used
+lies c = rw c.header-numbers.ensures (reading_lies c.before.before.args.s.now)
 
-header-requires : tie.Need-header-requires
+header-requires : tie.Need-header-numbers-requires
 header-requires c κs = search rules
 
-sub-result : tie.Need-overflow-sub-result
+sub-result : tie.Need-slice_bounds-result-count
 sub-result c = omega (arith, (lies c).order)
 
-part-result-start : tie.Need-slice-bounds-result-start
+part-result-start : tie.Need-slice_bounds-result-start
 part-result-start c = let h = lies c in
     search rules
 
-part-result-end : tie.Need-slice-bounds-result-end
+part-result-end : tie.Need-slice_bounds-result-end
 part-result-end c = let h = lies c in
     search rules
 
 returns : tie.Need-returns
 returns c = let s = c.before.before.before.args.s in
-    ap (λ (n : Numbers). cut s n.start (n.used - n.start)) c.before.header.ensures
+    ap (λ (n : Numbers). cut s n.start (n.used - n.start)) c.before.header-numbers.ensures
 
 pub raster_spec : {M : Type 1} → statement M
 raster_spec =

@@ -18,37 +18,37 @@ use Rattle.lit.proofs.rank.Statement.{statement}
 use Rattle.lit.proofs.rank.Tie as tie
 
 -- once it is judged
-module _ (c : tie.After-call) where
+module _ (c : tie.After-call-refusal) where
   abbrev start : tie.Start
   start = c.before.before
 
-  judged : c.call.result ≡ refusal_of (rank_call start.args.row.now start.args.count start.args.i)
+  judged : c.call-refusal.result ≡ refusal_of (rank_call start.args.row.now start.args.count start.args.i)
   unfolding rank_call
-  judged = c.call.ensures
+  judged = c.call-refusal.ensures
 
-  good : c.call.result ≡ 0 → Held (length start.args.row.now) start.args.count × (start.args.i ≤ start.args.count)
+  good : c.call-refusal.result ≡ 0 → Held (length start.args.row.now) start.args.count × (start.args.i ≤ start.args.count)
   good none =
       let h = held (length start.args.row.now) start.args.count (beyond_fault start.args.count start.args.i ∷ [])
-      (sym c.call.ensures ∙ none) in
+      (sym c.call-refusal.ensures ∙ none) in
       (h.0, within start.args.count start.args.i h.1)
 
-returns : tie.Need-returns
+returns : tie.Need-returns-then-refusal-ne0
 unfolding rank_call
 returns c = let a = (start c.before).args in
-    result_refused (rank_call a.row.now a.count a.i) (judged c.before) c.if1.true
+    result_refused (rank_call a.row.now a.count a.i) (judged c.before) c.if-refusal-ne0.true
 
-of-first-requires : tie.Need-of-first-requires
-of-first-requires c κs = let g = good c.before c.if1.false in
+of-first-requires : tie.Need-of_first-requires
+of-first-requires c κs = let g = good c.before c.if-refusal-ne0.false in
     (omega (arith, g.0.there, g.1), omega (arith, g.0.few, g.1))
 
-returns-2 : tie.Need-returns-2
+returns-2 : tie.Need-returns
 unfolding rank_call
 returns-2 c =
     let j = c.before.before in
-    let none = c.before.if1.false in
+    let none = c.before.if-refusal-ne0.false in
     let a = (start j).args in
     ap (λ (n : ℕ). record { refusal = 0; value = n })
-    (c.of-first.ensures.is ∙ sym (ap ones_of (take-take a.i a.count (bits a.row.now) (good j none).1)))
+    (c.of_first.ensures.is ∙ sym (ap ones_of (take-take a.i a.count (bits a.row.now) (good j none).1)))
     ∙ result_taken (rank_call a.row.now a.count a.i) (judged j) none
 
 pub rank_spec : {M : Type 1} → statement M

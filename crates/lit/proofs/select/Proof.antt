@@ -23,7 +23,7 @@ use Rattle.lit.proofs.select.Statement.{statement}
 use Rattle.lit.proofs.select.Tie as tie
 
 -- once it is judged
-module _ (c : tie.After-call) where
+module _ (c : tie.After-call-refusal) where
   abbrev start : tie.Start
   start = c.before.before
 
@@ -37,9 +37,9 @@ module _ (c : tie.After-call) where
   abbrev last : List Fault
   last = (ltb (ones_of lit) start.args.k gives bad_lit_call) ∷ []
 
-  module _ (none : c.call.result ≡ 0) where
+  module _ (none : c.call-refusal.result ≡ 0) where
     passed : first_of earlier ≡ 0
-    passed = sym c.call.ensures ∙ none
+    passed = sym c.call-refusal.ensures ∙ none
 
     good : Held (length start.args.row.now) start.args.count × (0 < start.args.k)
     good =
@@ -52,37 +52,37 @@ module _ (c : tie.After-call) where
     unfolding select_call
     by_search e = sym (first_goes_on earlier last passed ∙ e)
 
-returns : tie.Need-returns
+returns : tie.Need-returns-then-refusal-ne0
 unfolding select_call
 returns c = let j = c.before in
     let a = (start j).args in
     result_refused (select_call a.row.now a.count a.k)
-    (first_stops (earlier j) (last j) j.call.result j.call.ensures c.if1.true) c.if1.true
+    (first_stops (earlier j) (last j) j.call-refusal.result j.call-refusal.ensures c.if-refusal-ne0.true) c.if-refusal-ne0.true
 
-kth-requires : tie.Need-kth-requires
-kth-requires c κs = let g = good c.before c.if1.false in (g.0.few, g.0.there, g.1)
+kth-requires : tie.Need-kth-place-requires
+kth-requires c κs = let g = good c.before c.if-refusal-ne0.false in (g.0.few, g.0.there, g.1)
 
-returns-2 : tie.Need-returns-2
+returns-2 : tie.Need-returns-then-place-eq0
 unfolding select_call
 returns-2 c =
     let e = c.before.before in
     let j = e.before in
     let a = (start j).args in
     let gone : ones_of (lit j) < a.k =
-    no_place a.k (lit j) (good j e.if1.false).1 (sym c.before.kth.ensures.0 ∙ c.if2.true) in
+    no_place a.k (lit j) (good j e.if-refusal-ne0.false).1 (sym c.before.kth-place.ensures.0 ∙ c.if-place-eq0.true) in
     result_refused (select_call a.row.now a.count a.k) {n = bad_lit_call}
-    (by_search j e.if1.false (rw (lt-ltb (ones_of (lit j)) a.k gone))) (λ z. omega arith)
+    (by_search j e.if-refusal-ne0.false (rw (lt-ltb (ones_of (lit j)) a.k gone))) (λ z. omega arith)
 
-returns-3 : tie.Need-returns-3
+returns-3 : tie.Need-returns
 unfolding select_call
 returns-3 c =
     let e = c.before.before in
     let j = e.before in
     let a = (start j).args in
-    let there = some_place a.k (lit j) (λ none. c.if2.false (c.before.kth.ensures.0 ∙ none)) in
-    ap (λ (p : ℕ). record { refusal = 0; value = p }) c.before.kth.ensures.0
+    let there = some_place a.k (lit j) (λ none. c.if-place-eq0.false (c.before.kth-place.ensures.0 ∙ none)) in
+    ap (λ (p : ℕ). record { refusal = 0; value = p }) c.before.kth-place.ensures.0
     ∙ result_taken (select_call a.row.now a.count a.k) {n = 0}
-    (by_search j e.if1.false (rw (le-ltb (ones_of (lit j)) a.k there))) refl
+    (by_search j e.if-refusal-ne0.false (rw (le-ltb (ones_of (lit j)) a.k there))) refl
 
 pub select_spec : {M : Type 1} → statement M
 select_spec = tie.close (tie.spec (λ c κs. search rules) returns kth-requires returns-2 returns-3)

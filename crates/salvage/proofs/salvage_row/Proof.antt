@@ -20,9 +20,9 @@ use Rattle.salvage.proofs.salvage_row.Statement.{statement}
 use Rattle.salvage.proofs.salvage_row.Tie as tie
 
 -- once 8, 4 and 21 are asked
-module _ (c : tie.After-salvage) where
+module _ (c : tie.After-salvage-refusal) where
   abbrev derived : tie.After-derive
-  derived = c.before.before.before.before
+  derived = c.before.before.before
 
   abbrev start : tie.Start
   start = derived.before.before.before.before
@@ -39,30 +39,30 @@ module _ (c : tie.After-salvage) where
   abbrev row : List ℕ
   row = start.args.row.now
 
-  asked : c.salvage.result ≡ refusal_of (salvage_call book ring numbers)
-  asked = asked_first book ring numbers c.salvage.ensures c.before.count.ensures
+  asked : c.salvage-refusal.result ≡ refusal_of (salvage_call book ring numbers)
+  asked = asked_first book ring numbers c.salvage-refusal.ensures c.before.count.ensures
 
 -- and passed
-module _ (c : tie.Else1) where
-  abbrev judged : tie.After-salvage
+module _ (c : tie.Else-refusal-ne0) where
+  abbrev judged : tie.After-salvage-refusal
   judged = c.before
 
   abbrev shape : Shape
   shape = (derived judged).derive.result.shape
 
   taken : refusal_of (salvage_call (book judged) (ring judged) (numbers judged)) ≡ 0
-  taken = sym (asked judged) ∙ c.if1.false
+  taken = sym (asked judged) ∙ c.if-refusal-ne0.false
 
   at_hand : Ready (book judged) shape (length (ring judged)) × (slots_of (book judged) ≤ length (numbers judged))
   at_hand = all_at_hand (book judged) (ring judged) (numbers judged) (λ i. ((derived judged).derive.ensures i).shape) taken
 
 -- and so is 18
-module _ (c : tie.Else2) where
-  abbrev passed : tie.Else1
+module _ (c : tie.Else-count-entries) where
+  abbrev passed : tie.Else-refusal-ne0
   passed = c.before.before.before
 
   room : entries_for (shape passed).slots ≤ length (row (judged passed))
-  room = rw (c.before.entries.ensures, c.before.before.count2.ensures) at c.if2.false
+  room = rw (c.before.entries.ensures, c.before.before.count-2.ensures) at c.if-count-entries.false
 
 derive-requires : tie.Need-derive-requires
 derive-requires c κs = search rules
@@ -70,19 +70,19 @@ derive-requires c κs = search rules
 count-requires : tie.Need-count-requires
 count-requires c κs = search rules
 
-salvage-requires : tie.Need-salvage-requires
-salvage-requires c κs = λ i. (c.before.before.before.derive.ensures i).shape
+salvage-requires : tie.Need-salvage-refusal-requires
+salvage-requires c κs = λ i. (c.derive.ensures i).shape
 
 refused-requires : tie.Need-refused-requires
 refused-requires c κs = search rules
 
-same_length : tie.Need-same-length
+same_length : tie.Need-shape_of-ring-then-refusal-ne0
 same_length c = search rules
 
-returns : tie.Need-returns
+returns : tie.Need-returns-then-refusal-ne0
 returns c =
     let j = c.before.before in
-    let some = c.before.if1.true in
+    let some = c.before.if-refusal-ne0.true in
     handed_back_row (book j) (ring j) (numbers j) (row j) (asked_before_row (book j) (ring j) (numbers j) (row j) (asked j) some) some
     c.refused.ensures
 
@@ -92,47 +92,47 @@ count-requires-2 c κs = search rules
 entries-requires : tie.Need-entries-requires
 entries-requires c κs = ready_slots (at_hand c.before).0
 
-refused-requires-2 : tie.Need-refused-requires-2
+refused-requires-2 : tie.Need-refused-requires-then-count-entries
 refused-requires-2 c κs = search rules
 
-same-length-2 : tie.Need-same-length-2
+same-length-2 : tie.Need-shape_of-ring-then-count-entries
 same-length-2 c = search rules
 
-returns-2 : tie.Need-returns-2
+returns-2 : tie.Need-returns-then-count-entries
 returns-2 c =
     let e = c.before.before in
     let p = e.before.before in
     let j = judged p in
-    let few = rw (e.entries.ensures ∙ ready_entries (at_hand p).0, e.before.count2.ensures) at c.before.if2.true in
+    let few = rw (e.entries.ensures ∙ ready_entries (at_hand p).0, e.before.count-2.ensures) at c.before.if-count-entries.true in
     handed_back_row (book j) (ring j) (numbers j) (row j) (sym (row_18 (book j) (ring j) (numbers j) (row j) (taken p) few)) (λ z. omega arith)
-    c.refused2.ensures
+    c.refused-then-count-entries.ensures
 
-mend-requires : tie.Need-mend-requires
+mend-requires : tie.Need-mend-done-requires
 mend-requires c κs = at_hand (passed c.before.before)
 
 rebuild-requires : tie.Need-rebuild-requires
 rebuild-requires c κs =
-    let m = c.before.before.before.before.before.before in
+    let m = c.before.before.before.before.before in
     let t = m.before.before.before in
-    (rw m.mend.auto.1.1.0 (ready_lent (at_hand (passed t)).0), room t)
+    (rw m.mend-done.auto.ring (ready_lent (at_hand (passed t)).0), room t)
 
-same-length-3 : tie.Need-same-length-3
+same-length-3 : tie.Need-shape_of-ring
 same-length-3 c = search rules
 
-same-length-4 : tie.Need-same-length-4
+same-length-4 : tie.Need-shape_of-numbers
 same-length-4 c = search rules
 
-same-length-5 : tie.Need-same-length-5
+same-length-5 : tie.Need-shape_of-row
 same-length-5 c = search rules
 
-returns-3 : tie.Need-returns-3
+returns-3 : tie.Need-returns
 returns-3 c =
     let b = c.before.before in
-    let m = b.before.before.before.before.before.before.before in
+    let m = b.before.before.before.before.before.before in
     let t = m.before.before.before in
     let p = passed t in
     let j = judged p in
-    as_called_with_row (book j) (ring j) (numbers j) (taken p) m.mend.ensures.0 m.mend.ensures.1 m.mend.ensures.2 (row j)
+    as_called_with_row (book j) (ring j) (numbers j) (taken p) m.mend-done.ensures.0 m.mend-done.ensures.1 m.mend-done.ensures.2 (row j)
     (at_hand p).0 (room t) b.rebuild.ensures
 
 pub salvage_row_spec : {M : Type 1} → statement M

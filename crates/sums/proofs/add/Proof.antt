@@ -35,7 +35,7 @@ use Rattle.sums.proofs.add.Statement.{statement}
 use Rattle.sums.proofs.add.Tie as tie
 
 -- once 18 is judged
-module _ (c : tie.After-row-short) where
+module _ (c : tie.After-row_short) where
   abbrev derived : tie.After-derive
   derived = c.before.before.before.before
 
@@ -67,13 +67,13 @@ module _ (c : tie.After-row-short) where
   after = added_row book ring row item
 
   -- the judgement is the row's
-  judged : c.row-short.result ≡ gives18 up_to4 behind (ltb (length row) (entries_of book))
+  judged : c.row_short.result ≡ gives18 up_to4 behind (ltb (length row) (entries_of book))
   judged =
-      c.row-short.ensures
+      c.row_short.ensures
       ∙ ap₂ (λ (bytes numbers : ℕ). gives18 (book_faults book bytes) behind (ltb numbers (entries_of book)))
-      c.before.before.count.ensures c.before.count2.ensures
+      c.before.before.count.ensures c.before.count-2.ensures
 
-  module _ (not : c.row-short.result ≡ false) where
+  module _ (not : c.row_short.result ≡ false) where
     passed : gives18 up_to4 behind (ltb (length row) (entries_of book)) ≡ false
     passed = sym judged ∙ not
 
@@ -90,14 +90,14 @@ count-requires c κs = search rules
 count-requires-2 : tie.Need-count-requires-2
 count-requires-2 c κs = search rules
 
-row-short-requires : tie.Need-row-short-requires
+row-short-requires : tie.Need-row_short-requires
 row-short-requires c κs = ap (λ (s : Shaped). s.shape) c.before.before.before.derive.ensures
 
-returns : tie.Need-returns
+returns : tie.Need-returns-then-row_short
 unfolding add_row_call
 returns c =
     let s = c.before in
-    let given = sym (judged s) ∙ c.if1.true in
+    let given = sym (judged s) ∙ c.if-row_short.true in
     let left = short_left (own s) (up_to4 s) (behind s) (add_refusal (book s) (ring s) (item s)) (entries_of (book s)) (row s) (after s) tt given in (
       sym (add_hands_back (book s) (ring s) (item s) row_too_short)
           ∙ short_result (own s) (up_to4 s) (behind s) (add_refusal (book s) (ring s) (item s)) (entries_of (book s)) (row s) (after s) tt given,
@@ -106,24 +106,24 @@ returns c =
     )
 
 -- once the book has answered
-module _ (c : tie.After-add) where
-  abbrev asked : tie.After-row-short
+module _ (c : tie.After-add-added) where
+  abbrev asked : tie.After-row_short
   asked = c.before.before.before
 
-  abbrev not : asked.row-short.result ≡ false
-  not = c.before.before.if1.false
+  abbrev not : asked.row_short.result ≡ false
+  not = c.before.before.if-row_short.false
 
-  own_refusal : c.add.result.refusal ≡ refusal_of (own asked)
-  own_refusal = ap (λ (r : Updated). r.refusal) c.add.ensures.0 ∙ add_number (book asked) (ring asked) (item asked)
+  own_refusal : c.add-added.result.refusal ≡ refusal_of (own asked)
+  own_refusal = ap (λ (r : Updated). r.refusal) c.add-added.ensures.0 ∙ add_number (book asked) (ring asked) (item asked)
 
-  result_is : c.add.result ≡ result_of (add_row_call (book asked) (ring asked) (row asked) (item asked))
-  result_is = c.add.ensures.0 ∙ sym (same asked not).same_result
+  result_is : c.add-added.result ≡ result_of (add_row_call (book asked) (ring asked) (row asked) (item asked))
+  result_is = c.add-added.ensures.0 ∙ sym (same asked not).same_result
 
-  ring_is : c.add.new.1.0 ≡ (left_of (add_row_call (book asked) (ring asked) (row asked) (item asked))).ring
-  ring_is = c.add.ensures.1 ∙ sym (same asked not).same_ring
+  ring_is : c.add-added.new.ring ≡ (left_of (add_row_call (book asked) (ring asked) (row asked) (item asked))).ring
+  ring_is = c.add-added.ensures.1 ∙ sym (same asked not).same_ring
 
   -- where it took the item, the numbers that were derived are its own, and the row has room for them
-  module _ (none : c.add.result.refusal ≡ 0) where
+  module _ (none : c.add-added.result.refusal ≡ 0) where
     taken : refusal_of (own asked) ≡ 0
     taken = sym own_refusal ∙ none
 
@@ -136,11 +136,11 @@ module _ (c : tie.After-add) where
     room : entries_of (book asked) ≤ length (row asked)
     room = (add_beside (book asked) (ring asked) (row asked) (item asked)).had_room ((same asked not).same_refusal ∙ taken)
 
-    phase_is : c.add.result.book.phase ≡ (added (book asked) (item asked)).phase
-    phase_is = ap (λ (r : Updated). r.book.phase) (c.add.ensures.0 ∙ (add_gives (book asked) (ring asked) (item asked) taken).0)
+    phase_is : c.add-added.result.book.phase ≡ (added (book asked) (item asked)).phase
+    phase_is = ap (λ (r : Updated). r.book.phase) (c.add-added.ensures.0 ∙ (add_gives (book asked) (ring asked) (item asked) taken).0)
 
-    new_ring : c.add.new.1.0 ≡ added_ring (book asked) (ring asked) (item asked)
-    new_ring = c.add.ensures.1 ∙ (add_gives (book asked) (ring asked) (item asked) taken).1
+    new_ring : c.add-added.new.ring ≡ added_ring (book asked) (ring asked) (item asked)
+    new_ring = c.add-added.ensures.1 ∙ (add_gives (book asked) (ring asked) (item asked) taken).1
 
     row_after : {row' : List ℕ} → row' ≡ after asked → row' ≡ (left_of (add_row_call (book asked) (ring asked) (row asked) (item asked))).row
     unfolding add_row_call
@@ -149,18 +149,18 @@ module _ (c : tie.After-add) where
         ∙ passed_taken (own asked) (up_to4 asked) (behind asked) (add_refusal (book asked) (ring asked) (item asked)) (entries_of (book asked)) (row asked)
         (after asked) (passed asked not) taken
 
-add-requires : tie.Need-add-requires
+add-requires : tie.Need-add-added-requires
 add-requires c κs = search rules
 
-same_length : tie.Need-same-length
+same_length : tie.Need-shape_of-ring-then-added-ne0
 same_length c = search rules
 
-returns-2 : tie.Need-returns-2
+returns-2 : tie.Need-returns-then-added-ne0
 unfolding add_row_call
 returns-2 c =
     let o = c.before.before.before.before in
     let s = asked o in
-    let some : refusal_of (own s) ≡ 0 → ⊥ = λ e. c.if2.true (own_refusal o ∙ e) in (
+    let some : refusal_of (own s) ≡ 0 → ⊥ = λ e. c.if-added-ne0.true (own_refusal o ∙ e) in (
       result_is o,
       ring_is o,
       passed_refused (own s) (up_to4 s) (behind s) (add_refusal (book s) (ring s) (item s)) (entries_of (book s)) (row s) (after s) (passed s (not o)) some,
@@ -168,8 +168,8 @@ returns-2 c =
 
 store-requires : tie.Need-store-requires
 store-requires c κs =
-    let o = c.before.before.before.before.before.before.before.before in
-    let none = c.before.before.before.before.if2.false in
+    let o = c.before.before.before.before.before.before.before in
+    let none = c.before.before.before.if-added-ne0.false in
     let s = asked o in
     let known = add_known (book s) (ring s) (item s) (taken o none) in
     let slots = use_slots (shape_is o none) (usable o none).sound in (
@@ -179,20 +179,20 @@ store-requires c κs =
       omega (arith, slots.0, room o none),
     )
 
-same-length-2 : tie.Need-same-length-2
+same-length-2 : tie.Need-shape_of-ring-then-added-eq0
 same-length-2 c = search rules
 
-same-length-3 : tie.Need-same-length-3
+same-length-3 : tie.Need-shape_of-row
 same-length-3 c = search rules
 
-returns-3 : tie.Need-returns-3
+returns-3 : tie.Need-returns-then-added-eq0
 returns-3 c =
     let put = c.before.before in
-    let test = put.before.before.before in
-    let none = test.before.before.if2.false in
+    let test = put.before.before in
+    let none = test.before.before.if-added-ne0.false in
     let o = test.before.before.before.before.before.before in
     let s = asked o in
-    let closes = closed_by_phase (book s) (item s) (sym (phase_is o none) ∙ test.if3.true) in (
+    let closes = closed_by_phase (book s) (item s) (sym (phase_is o none) ∙ test.if-added-eq0.true) in (
       result_is o,
       ring_is o,
       row_after o none
@@ -201,15 +201,15 @@ returns-3 c =
           ∙ row_stored (book s) (item s) (ring s) (row s) closes),
     )
 
-same-length-4 : tie.Need-same-length-4
+same-length-4 : tie.Need-shape_of-ring-else-added-eq0
 same-length-4 c = search rules
 
-returns-4 : tie.Need-returns-4
+returns-4 : tie.Need-returns-else-added-eq0
 returns-4 c =
-    let none = c.before.before.if2.false in
+    let none = c.before.before.if-added-ne0.false in
     let o = c.before.before.before.before.before.before in
     let s = asked o in
-    let more = open_by_phase (book s) (item s) (λ e. c.if3.false (phase_is o none ∙ e)) in
+    let more = open_by_phase (book s) (item s) (λ e. c.if-added-eq0.false (phase_is o none ∙ e)) in
     (result_is o, ring_is o, row_after o none (row_stays (book s) (item s) (ring s) (row s) more))
 
 pub add_spec : {M : Type 1} → statement M

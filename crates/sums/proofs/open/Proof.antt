@@ -32,7 +32,7 @@ use Rattle.sums.proofs.open.Statement.{statement}
 use Rattle.sums.proofs.open.Tie as tie
 
 -- once 18 is judged
-module _ (c : tie.After-opening-short) where
+module _ (c : tie.After-opening_short) where
   abbrev derived : tie.After-derive
   derived = c.before.before.before.before
 
@@ -70,13 +70,13 @@ module _ (c : tie.After-opening-short) where
   shape_is = ap (λ (s : Shaped). s.shape) derived.derive.ensures
 
   -- the judgement is the row's
-  judged : c.opening-short.result ≡ gives18 up_to4 [] (ltb (List.length row) entries)
+  judged : c.opening_short.result ≡ gives18 up_to4 [] (ltb (List.length row) entries)
   judged =
-      c.opening-short.ensures
+      c.opening_short.ensures
       ∙ ap₂ (λ (bytes numbers : ℕ). gives18 (number_faults L n D ++ room_fault (bytes_needed L n D) bytes ∷ []) [] (ltb numbers entries))
-      c.before.before.count.ensures c.before.count2.ensures
+      c.before.before.count.ensures c.before.count-2.ensures
 
-  module _ (not : c.opening-short.result ≡ false) where
+  module _ (not : c.opening_short.result ≡ false) where
     passed : gives18 up_to4 [] (ltb (List.length row) entries) ≡ false
     passed = sym judged ∙ not
 
@@ -93,49 +93,49 @@ count-requires c κs = search rules
 count-requires-2 : tie.Need-count-requires-2
 count-requires-2 c κs = search rules
 
-opening-short-requires : tie.Need-opening-short-requires
+opening-short-requires : tie.Need-opening_short-requires
 opening-short-requires c κs = ap (λ (s : Shaped). s.shape) c.before.before.before.derive.ensures
 
-no-book-requires : tie.Need-no-book-requires
+no-book-requires : tie.Need-no_book-zeros-requires
 no-book-requires c κs = search rules
 
-returns : tie.Need-returns
+returns : tie.Need-returns-then-opening_short
 unfolding open_row_call
 returns c =
     let s = c.before.before in
     let back = open_back (L s) (n s) (D s) (lent s) in
-    let given = sym (judged s) ∙ c.before.if1.true in
+    let given = sym (judged s) ∙ c.before.if-opening_short.true in
     let left = short_left (own s) (up_to4 s) [] (open_refusal (L s) (n s) (D s) (lent s)) (entries s) (row s) (after s) tt given in (
-      ap (λ (b : Book). record { refusal = row_too_short; book = b }) c.no-book.ensures
+      ap (λ (b : Book). record { refusal = row_too_short; book = b }) c.no_book-zeros.ensures
           ∙ sym (back.0 row_too_short)
           ∙ short_result (own s) (up_to4 s) [] (open_refusal (L s) (n s) (D s) (lent s)) (entries s) (row s) (after s) tt given,
       sym back.1 ∙ ap (λ (l : RingAndRow). l.ring) left,
       ap (λ (l : RingAndRow). l.row) left,
     )
 
-open-requires : tie.Need-open-requires
+open-requires : tie.Need-open-opened-requires
 open-requires c κs = search rules
 
-same_length : tie.Need-same-length
+same_length : tie.Need-shape_of-ring-then-opened-ne0
 same_length c = search rules
 
 -- once the book is opened, or not
-module _ (c : tie.After-open) where
-  abbrev asked : tie.After-opening-short
+module _ (c : tie.After-open-opened) where
+  abbrev asked : tie.After-opening_short
   asked = c.before.before.before
 
-  own_refusal : c.«open».result.refusal ≡ refusal_of (own asked)
-  own_refusal = ap (λ (r : Updated). r.refusal) c.«open».ensures.0 ∙ open_number (L asked) (n asked) (D asked) (lent asked)
+  own_refusal : c.open-opened.result.refusal ≡ refusal_of (own asked)
+  own_refusal = ap (λ (r : Updated). r.refusal) c.open-opened.ensures.0 ∙ open_number (L asked) (n asked) (D asked) (lent asked)
 
-  module _ (not : asked.opening-short.result ≡ false) where
-    result_is : c.«open».result ≡ result_of (open_row_call (L asked) (n asked) (D asked) (lent asked) (row asked))
-    result_is = c.«open».ensures.0 ∙ sym (same asked not).same_result
+  module _ (not : asked.opening_short.result ≡ false) where
+    result_is : c.open-opened.result ≡ result_of (open_row_call (L asked) (n asked) (D asked) (lent asked) (row asked))
+    result_is = c.open-opened.ensures.0 ∙ sym (same asked not).same_result
 
-    ring_is : c.«open».new.1.1.1.0 ≡ (left_of (open_row_call (L asked) (n asked) (D asked) (lent asked) (row asked))).ring
-    ring_is = c.«open».ensures.1 ∙ sym (same asked not).same_ring
+    ring_is : c.open-opened.new.ring ≡ (left_of (open_row_call (L asked) (n asked) (D asked) (lent asked) (row asked))).ring
+    ring_is = c.open-opened.ensures.1 ∙ sym (same asked not).same_ring
 
   -- where it is taken, the numbers that were derived are its own, and the row has room for them
-  module _ (taken : c.«open».result.refusal ≡ 0) where
+  module _ (taken : c.open-opened.result.refusal ≡ 0) where
     own_taken : refusal_of (own asked) ≡ 0
     own_taken = sym own_refusal ∙ taken
 
@@ -145,17 +145,17 @@ module _ (c : tie.After-open) where
         ∙ shape_cases (λ s. s.slots ≡ slot_count (L asked) (n asked) (D asked)) (L asked) (n asked) (D asked) (λ ranges. refl)
         (λ none. absurd (none (open_known (L asked) (n asked) (D asked) (lent asked) own_taken).0))
 
-    room : asked.opening-short.result ≡ false → entries asked ≤ List.length (row asked)
+    room : asked.opening_short.result ≡ false → entries asked ≤ List.length (row asked)
     room not =
         (open_beside (L asked) (n asked) (D asked) (lent asked) (row asked)).had_room ((same asked not).same_refusal ∙ own_taken)
 
-returns-2 : tie.Need-returns-2
+returns-2 : tie.Need-returns-then-opened-ne0
 unfolding open_row_call
 returns-2 c =
     let o = c.before.before.before.before in
     let s = asked o in
-    let not = o.before.before.if1.false in
-    let some : refusal_of (own s) ≡ 0 → ⊥ = λ e. c.if2.true (own_refusal o ∙ e) in (
+    let not = o.before.before.if-opening_short.false in
+    let some : refusal_of (own s) ≡ 0 → ⊥ = λ e. c.if-opened-ne0.true (own_refusal o ∙ e) in (
       result_is o not,
       ring_is o not,
       passed_refused (own s) (up_to4 s) [] (open_refusal (L s) (n s) (D s) (lent s)) (entries s) (row s) (after s) (passed s not) some,
@@ -169,23 +169,23 @@ entries-requires c κs =
 clear-requires : tie.Need-clear-requires
 clear-requires c κs =
     let o = c.before.before.before.before.before.before in
-    let taken = c.before.before.if2.false in
-    omega (arith, c.entries.ensures, ap entries_for (slots_is o taken), room o taken o.before.before.if1.false)
+    let taken = c.before.before.if-opened-ne0.false in
+    omega (arith, c.entries.ensures, ap entries_for (slots_is o taken), room o taken o.before.before.if-opening_short.false)
 
-same-length-2 : tie.Need-same-length-2
+same-length-2 : tie.Need-shape_of-ring
 same-length-2 c = search rules
 
-same-length-3 : tie.Need-same-length-3
+same-length-3 : tie.Need-shape_of-row
 same-length-3 c = search rules
 
-returns-3 : tie.Need-returns-3
+returns-3 : tie.Need-returns
 unfolding open_row_call cleared_row
 returns-3 c =
     let cleared = c.before.before in
     let o = cleared.before.before.before.before.before.before.before in
-    let taken = cleared.before.before.before.if2.false in
+    let taken = cleared.before.before.before.if-opened-ne0.false in
     let s = asked o in
-    let not = o.before.before.if1.false in
+    let not = o.before.before.if-opening_short.false in
     let n_is = cleared.before.entries.ensures ∙ ap entries_for (slots_is o taken) in (
       result_is o not,
       ring_is o not,

@@ -28,7 +28,7 @@ module _ (c : tie.After-derive) where
   shape_told = ap (λ (s : Shaped). s.shape) c.derive.ensures
 
 -- once the row is judged
-module _ (c : tie.After-row-short) where
+module _ (c : tie.After-row_short) where
   abbrev derived : tie.After-derive
   derived = c.before.before.before.before
 
@@ -44,24 +44,24 @@ module _ (c : tie.After-row-short) where
   abbrev counts : List ℕ
   counts = (start derived).args.counts.now
 
-  judged : row_short book (length ring) (length row) ≡ c.row-short.result
-  judged = sym (c.row-short.ensures ∙ ap₂ (row_short book) c.before.before.count.ensures c.before.count2.ensures)
+  judged : row_short book (length ring) (length row) ≡ c.row_short.result
+  judged = sym (c.row_short.ensures ∙ ap₂ (row_short book) c.before.before.count.ensures c.before.count-2.ensures)
 
 -- and is long enough, so that the book decides
 module _ (c : tie.After-refuses) where
-  abbrev asked : tie.After-row-short
-  asked = c.before.before.before
+  abbrev asked : tie.After-row_short
+  asked = c.before.before
 
   passes : row_short (book asked) (length (ring asked)) (length (row asked)) ≡ false
-  passes = judged asked ∙ c.before.before.if1.false
+  passes = judged asked ∙ c.before.if-row_short.false
 
 -- … and takes the counts
-module _ (c : tie.Else2) where
-  abbrev all : tie.After-row-short
+module _ (c : tie.Else-refuses) where
+  abbrev all : tie.After-row_short
   all = asked c.before
 
   taken : refusal_of (run_call (book all) (ring all) (counts all)) ≡ 0
-  taken = passed_on_none _ (sym c.before.refuses.ensures ∙ c.if2.false)
+  taken = passed_on_none _ (sym c.before.refuses.ensures ∙ c.if-refuses.false)
 
 derive-requires : tie.Need-derive-requires
 derive-requires c κs = search rules
@@ -72,23 +72,23 @@ count-requires c κs = search rules
 count-requires-2 : tie.Need-count-requires-2
 count-requires-2 c κs = search rules
 
-row-short-requires : tie.Need-row-short-requires
+row-short-requires : tie.Need-row_short-requires
 row-short-requires c κs = shape_told c.before.before.before
 
-returns : tie.Need-returns
+returns : tie.Need-returns-then-row_short
 returns c = let p = c.before in
-    run_short (book p) (ring p) (row p) (counts p) (judged p ∙ c.if1.true)
+    run_short (book p) (ring p) (row p) (counts p) (judged p ∙ c.if-row_short.true)
 
 refuses-requires : tie.Need-refuses-requires
-refuses-requires c κs = shape_told (derived c.before.before)
+refuses-requires c κs = shape_told (derived c.before)
 
 run-requires : tie.Need-run-requires
 run-requires c κs = search rules
 
-same_length : tie.Need-same-length
+same_length : tie.Need-shape_of-ring-then-refuses
 same_length c = search rules
 
-returns-2 : tie.Need-returns-2
+returns-2 : tie.Need-returns-then-refuses
 returns-2 c = let ran = c.before.before in
     let refused = ran.before.before in
     let q = refused.before in
@@ -96,25 +96,25 @@ returns-2 c = let ran = c.before.before in
     let same = run_same (book p) (ring p) (row p) (counts p) (passes q) in (
       ran.run.ensures.0 ∙ sym same.same_result,
       ran.run.ensures.1 ∙ sym same.same_ring,
-      run_leaves (book p) (ring p) (row p) (counts p) (passes q) (sym q.refuses.ensures ∙ refused.if2.true),
+      run_leaves (book p) (ring p) (row p) (counts p) (passes q) (sym q.refuses.ensures ∙ refused.if-refuses.true),
     )
 
-add-all-requires : tie.Need-add-all-requires
+add-all-requires : tie.Need-add_all-next-requires
 add-all-requires c κs = let q = c.before.before in
     let p = all q in
     run_taking (book p) (ring p) (row p) (counts p) (passes q.before) (taken q) (shape_told (derived p))
 
-same-length-2 : tie.Need-same-length-2
+same-length-2 : tie.Need-shape_of-ring
 same-length-2 c = search rules
 
-same-length-3 : tie.Need-same-length-3
+same-length-3 : tie.Need-shape_of-row
 same-length-3 c = search rules
 
-returns-3 : tie.Need-returns-3
+returns-3 : tie.Need-returns
 returns-3 c = let added = c.before.before.before.before in
     let q = added.before.before.before in
     let p = all q in
-    let e = added.add_all_lem.ensures in
+    let e = added.add_all-next.ensures in
     run_done (book p) (ring p) (row p) (counts p) (passes q.before) (taken q) e.0 e.1 e.2
 
 pub run_spec : {M : Type 1} → statement M

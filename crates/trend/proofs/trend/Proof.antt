@@ -15,39 +15,39 @@ use Rattle.trend.proofs.trend.Statement.{statement}
 use Rattle.trend.proofs.trend.Tie as tie
 
 -- once both figures are there
-module _ (c : tie.After-two-totals) where
+module _ (c : tie.After-two_totals-both) where
   abbrev start : tie.Start
   start = c.before.before
 
   abbrev both : Figures
-  both = c.two-totals.result
+  both = c.two_totals-both.result
 
   small : (both.shorter < 2 ^ 56) × (both.longer < 2 ^ 56)
-  small = rw c.two-totals.ensures (both_small start.args.book start.args.ring.now start.args.window start.args.window)
+  small = rw c.two_totals-both.ensures (both_small start.args.book start.args.ring.now start.args.window start.args.window)
 
   difference : to_z w64 (of_z w64 (to_z w64 (2 * both.shorter) -ℤ to_z w64 both.longer)) ≡ twice_less both.shorter both.longer
   difference = taken_is w64 (2 * both.shorter) both.longer (omega (arith, small)) (omega (arith, small))
 
-two-totals-requires : tie.Need-two-totals-requires
+two-totals-requires : tie.Need-two_totals-both-requires
 two-totals-requires c κs = search rules
 
-mul-t5 : tie.Need-overflow-mul-t5
+mul-t5 : tie.Need-overflow_mul-result
 mul-t5 c = omega (arith, small c.before)
 
-cast-t6 : tie.Need-overflow-cast-t6
+cast-t6 : tie.Need-overflow_cast-result
 cast-t6 c = record { sfits = omega (arith, small c.before) }
 
-cast-t7 : tie.Need-overflow-cast-t7
+cast-t7 : tie.Need-overflow_cast-result-2
 cast-t7 c = record { sfits = omega (arith, small c.before.before) }
 
-sub-t8 : tie.Need-overflow-sub-t8
+sub-t8 : tie.Need-overflow_sub-result
 sub-t8 c = let b = c.before.before in taken_fits w64 (2 * (both b).shorter) (both b).longer (omega (arith, small b)) (omega (arith, small b))
 
 returns : tie.Need-returns
 returns c =
     let b = c.before.before in
     ap (λ (t : ℤ). record { refusal = (both b).refusal; trend = t }) (difference b)
-    ∙ ap as_trend b.two-totals.ensures ∙ totals_as_trend (start b).args.book (start b).args.ring.now (start b).args.window
+    ∙ ap as_trend b.two_totals-both.ensures ∙ totals_as_trend (start b).args.book (start b).args.ring.now (start b).args.window
 
 pub trend_spec : {M : Type 1} → statement M
 trend_spec = tie.close (tie.spec two-totals-requires mul-t5 cast-t6 cast-t7 sub-t8 returns)

@@ -1,6 +1,6 @@
 -- `book::shape::binary_digits` meets its contract: a number has 64 digits less its leading zeros.
 -- Assumes nothing.
-use Rattle.std.proofs.Common.{◌≡◌, sym, refl, ap, ◌∙◌, ap₂, arith}
+use Rattle.std.proofs.Common.{arith}
 use lib.Count.{leading_le}
 use Rattle.book.proofs.DigitsByLeadingZeros.{digits_leading}
 use Rattle.book.proofs.shape.binary_digits.Statement.{statement}

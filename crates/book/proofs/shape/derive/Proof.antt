@@ -1,10 +1,8 @@
 -- `book::shape::derive` meets its contract: a refusal comes with zeros, and without one the numbers are derived.
 -- Assumes nothing.
-use Rattle.std.proofs.Common.{◌≡◌, [], sym, ap, ◌∙◌, rules}
-use Rattle.refusals.specs.Call.{refusal_of}
+use Rattle.std.proofs.Common.{[], sym, ap, ◌∙◌, rules}
 use Rattle.refusals.proofs.Calls.{nothing_holds, written_out, result_taken, result_refused}
 use Rattle.book.specs.declared.shape.Shape.{Shape}
-use Rattle.book.specs.declared.shape.Shaped.{Shaped}
 use Rattle.book.specs.Shape.{number_faults, shape_call}
 use Rattle.book.proofs.WhenTaken.{ranges_known}
 use Rattle.book.proofs.shape.derive.Statement.{statement}

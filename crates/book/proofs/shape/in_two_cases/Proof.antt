@@ -1,6 +1,6 @@
 -- `book::shape::in_two_cases` meets its contract: c, s and z in each case, and the rest follows from these.
 -- Assumes nothing.
-use Rattle.std.proofs.Common.{◌≡◌, ◌∙◌, div-le_self, arith, rules}
+use Rattle.std.proofs.Common.{◌∙◌, div-le_self, arith, rules}
 use Rattle.book.specs.Derived.{ceil_div}
 use Rattle.book.proofs.NumbersInRange.{tolerance_top}
 use Rattle.book.proofs.ShapeInTwoCases.{shape_by, shape_below, quotient_small, block_some, slots_few, shape_at_least}

@@ -1,11 +1,9 @@
 -- `book::shape::packed` meets its contract: at most 4,096 slots of at most 16 bits.
 -- Assumes nothing.
-use Rattle.std.proofs.Common.{◌≡◌, ℕ, ◌*◌, ◌≤◌, sym, ap, ◌∙◌, mul-le-mul, arith, rules}
+use Rattle.std.proofs.Common.{◌*◌, ◌≤◌, mul-le-mul, arith, rules}
 use Rattle.ring.proofs.Promises.{bytes_are}
-use Rattle.book.specs.declared.shape.Shape.{Shape}
 use Rattle.book.specs.Limits.{largest_length}
 use Rattle.book.proofs.DigitsByLeadingZeros.{digits_le}
-use Rattle.book.proofs.ShapeInTwoCases.{shape_by}
 use Rattle.book.proofs.shape.packed.Statement.{statement}
 use Rattle.book.proofs.shape.packed.Tie as tie
 

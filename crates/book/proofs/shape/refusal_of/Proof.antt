@@ -1,6 +1,6 @@
 -- `book::shape::refusal_of` meets its contract: at each return the tests that led there say which fault holds.
 -- Assumes nothing.
-use Rattle.std.proofs.Common.{◌≡◌, ℕ, false, sym, ◌∙◌, mul-le-mul, arith, rules}
+use Rattle.std.proofs.Common.{◌≡◌, false, sym, ◌∙◌, mul-le-mul, arith, rules}
 use Rattle.refusals.specs.First.{outside}
 use Rattle.refusals.proofs.Laws.{in_range}
 use Rattle.book.specs.Limits.{largest_bound, largest_length}

@@ -1,6 +1,6 @@
 -- `book::slots::before` meets its contract: the ring promises the slot before each slot.
 -- Assumes nothing.
-use Rattle.std.proofs.Common.{◌≡◌, ℕ, zero, suc, ◌-◌, sym, refl, ap, ◌∙◌, ap₂, arith, rules}
+use Rattle.std.proofs.Common.{◌≡◌, ℕ, zero, suc, ◌-◌, sym, refl, ◌∙◌, arith, rules}
 use Rattle.ring.specs.Newest.{slot_before}
 use Rattle.ring.proofs.Promises.{before_first, before_next}
 use Rattle.book.proofs.slots.before.Statement.{statement}

@@ -1,6 +1,6 @@
 -- `book::slots::clear` meets its contract: the ring is lent whole, so that its call clears it.
 -- Assumes nothing.
-use Rattle.std.proofs.Common.{◌≡◌, sym, ap, ◌∙◌, rules}
+use Rattle.std.proofs.Common.{◌∙◌, rules}
 use Rattle.book.proofs.RingCalls.{ring_cleared}
 use Rattle.book.proofs.slots.clear.Statement.{statement}
 use Rattle.book.proofs.slots.clear.Tie as tie

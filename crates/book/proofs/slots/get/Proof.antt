@@ -1,6 +1,6 @@
 -- `book::slots::get` meets its contract: the ring is lent whole and has the slot, so that its call reads it.
 -- Assumes nothing.
-use Rattle.std.proofs.Common.{◌≡◌, sym, ap, ◌∙◌, rules}
+use Rattle.std.proofs.Common.{ap, ◌∙◌, rules}
 use Rattle.ring.specs.declared.Answer.{Answer}
 use Rattle.book.proofs.RingCalls.{ring_reads}
 use Rattle.book.proofs.slots.get.Statement.{statement}

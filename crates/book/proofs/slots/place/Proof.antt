@@ -1,6 +1,6 @@
 -- `book::slots::place` meets its contract: j back from `next`, or from the end of the ring.
 -- Assumes nothing.
-use Rattle.std.proofs.Common.{◌≡◌, sym, ap, ◌∙◌, arith, rules}
+use Rattle.std.proofs.Common.{sym, arith, rules}
 use Rattle.ring.proofs.Promises.{newest_near, newest_far}
 use Rattle.book.proofs.slots.place.Statement.{statement}
 use Rattle.book.proofs.slots.place.Tie as tie

@@ -1,6 +1,6 @@
 -- `book::slots::put` meets its contract: the ring is lent whole, has the slot and takes the value, so that its call writes it.
 -- Assumes nothing.
-use Rattle.std.proofs.Common.{◌≡◌, sym, ap, ◌∙◌, rules}
+use Rattle.std.proofs.Common.{◌∙◌, rules}
 use Rattle.book.proofs.RingCalls.{ring_writes}
 use Rattle.book.proofs.slots.put.Statement.{statement}
 use Rattle.book.proofs.slots.put.Tie as tie

@@ -1,6 +1,6 @@
 -- `book::slots::sum_newest` meets its contract: the ring is lent whole and has the slots, so that its call sums them.
 -- Assumes nothing.
-use Rattle.std.proofs.Common.{◌≡◌, sym, ap, ◌∙◌, rules}
+use Rattle.std.proofs.Common.{ap, ◌∙◌, rules}
 use Rattle.ring.specs.declared.Answer.{Answer}
 use Rattle.book.proofs.RingCalls.{ring_sums}
 use Rattle.book.proofs.slots.sum_newest.Statement.{statement}

@@ -17,77 +17,77 @@ use Rattle.image.proofs.AnswersTell.{told_found, told_stopped}
 use Rattle.image.proofs.bytes.next.Statement.{statement}
 use Rattle.image.proofs.bytes.next.Tie as tie
 
-abbrev invariant-loop : tie.invariant-loop
+abbrev invariant-loop : tie.invariant-loop-at
 invariant-loop s used end at₀ at = ahead s at ≡ ahead s used
 
-abbrev decreases-loop : tie.decreases-loop
+abbrev decreases-loop : tie.decreases-loop-at
 decreases-loop s used end at₀ at = end - at
 
-readable-requires : tie.Need-readable-requires invariant-loop decreases-loop
+readable-requires : tie.Need-readable-end-requires invariant-loop decreases-loop
 readable-requires c κs = search rules
 
-loop-holds : tie.Need-loop-init invariant-loop decreases-loop
+loop-holds : tie.Need-loop-at-init invariant-loop decreases-loop
 loop-holds c = refl
 
-shared-slice-read-byte : tie.Need-shared-slice-read-byte invariant-loop decreases-loop
+shared-slice-read-byte : tie.Need-bounds-s-at invariant-loop decreases-loop
 shared-slice-read-byte c = omega arith
 
-opens-comment-requires : tie.Need-opens-comment-requires invariant-loop decreases-loop
+opens-comment-requires : tie.Need-opens_comment-requires invariant-loop decreases-loop
 opens-comment-requires c κs = search rules
 
-add-behind-comment : tie.Need-overflow-add-behind-comment invariant-loop decreases-loop
+add-behind-comment : tie.Need-overflow_add-at invariant-loop decreases-loop
 add-behind-comment c = search rules
 
-behind-comment-requires : tie.Need-behind-comment-requires invariant-loop decreases-loop
+behind-comment-requires : tie.Need-behind_comment-at-requires invariant-loop decreases-loop
 behind-comment-requires c κs = search rules
 
-loop-less : tie.Need-loop-smaller invariant-loop decreases-loop
-loop-less c = omega (arith, c.behind-comment.ensures.1)
+loop-less : tie.Need-loop-at-smaller invariant-loop decreases-loop
+loop-less c = omega (arith, c.behind_comment-at.ensures.1)
 
-loop-again : tie.Need-loop-preserved invariant-loop decreases-loop
+loop-again : tie.Need-loop-at-preserved invariant-loop decreases-loop
 loop-again c =
     let turn = c.before.before.before.before.before in
     let s = turn.before.before.before.args.s.now in
-    let at = turn.loop.at in
-    let opens : comments false at (get_or s at 0) ≡ true = sym c.before.before.opens-comment.ensures ∙ c.before.if1.true in
-    c.behind-comment.ensures.0
+    let at = turn.loop-at.at in
+    let opens : comments false at (get_or s at 0) ≡ true = sym c.before.before.opens_comment.ensures ∙ c.before.if-opens_comment.true in
+    c.behind_comment-at.ensures.0
     ∙ ap (ahead_in_comment s) (add-one at)
     ∙ sym (ahead_opens s at (omega arith) (omega arith) opens)
-    ∙ turn.loop.invariant
+    ∙ turn.loop-at.invariant
 
-cast-t11 : tie.Need-overflow-cast-t11 invariant-loop decreases-loop
+cast-t11 : tie.Need-overflow_cast-result invariant-loop decreases-loop
 cast-t11 c =
     let known = c.before.before in
-    omega (arith, known.shared-slice-known2.given known.before.before.loop.at)
+    omega (arith, known.shared_slice_known-in-loop-at-1.given known.before.before.loop-at.at)
 
-add-t12 : tie.Need-overflow-add-t12 invariant-loop decreases-loop
+add-t12 : tie.Need-overflow_add-result invariant-loop decreases-loop
 add-t12 c = search rules
 
-returns : tie.Need-returns invariant-loop decreases-loop
+returns : tie.Need-returns-else-opens_comment invariant-loop decreases-loop
 returns c =
     let turn = c.before.before.before.before in
     let s = turn.before.before.before.args.s.now in
-    let at = turn.loop.at in
-    let plain : comments false at (get_or s at 0) ≡ false = sym c.before.opens-comment.ensures ∙ c.if1.false in
+    let at = turn.loop-at.at in
+    let plain : comments false at (get_or s at 0) ≡ false = sym c.before.opens_comment.ensures ∙ c.if-opens_comment.false in
     let seen : ahead s turn.before.before.before.args.used ≡ record { byte = get_or s at 0; upto = at + 1 } ∷ ahead s (at + 1) =
-    sym turn.loop.invariant ∙ ahead_next s at (omega arith) (omega arith) plain
+    sym turn.loop-at.invariant ∙ ahead_next s at (omega arith) (omega arith) plain
     ∙ ap (λ (k : ℕ). record { byte = get_or s at 0; upto = k } ∷ ahead s k) (sym (add-one at)) in (
       told_found s (record { refusal = 0; value = get_or s at 0; used = at + 1 }) refl ∙ sym (ap (next_byte (end_of s)) seen),
       omega arith,
     )
 
-end-of-requires : tie.Need-end-of-requires invariant-loop decreases-loop
+end-of-requires : tie.Need-end_of-requires invariant-loop decreases-loop
 end-of-requires c κs = search rules
 
 stopped-requires : tie.Need-stopped-requires invariant-loop decreases-loop
 stopped-requires c κs = search rules
 
-returns-2 : tie.Need-returns-2 invariant-loop decreases-loop
+returns-2 : tie.Need-returns invariant-loop decreases-loop
 returns-2 c =
     let turn = c.before.before.before in
     let s = turn.before.before.before.args.s.now in
-    let none = sym turn.loop.invariant ∙ ahead_none s turn.loop.at (omega arith) in
-    rw (c.stopped.ensures, c.before.end_of_lem.ensures, none) (told_stopped _ _ (end_refuses s), omega arith)
+    let none = sym turn.loop-at.invariant ∙ ahead_none s turn.loop-at.at (omega arith) in
+    rw (c.stopped.ensures, c.before.end_of.ensures, none) (told_stopped _ _ (end_refuses s), omega arith)
 
 pub next_spec : {M : Type 1} → statement M
 next_spec =

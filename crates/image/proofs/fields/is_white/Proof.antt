@@ -7,20 +7,20 @@ use Rattle.image.proofs.KindsOfBytes.{white_last}
 use Rattle.image.proofs.fields.is_white.Statement.{statement}
 use Rattle.image.proofs.fields.is_white.Tie as tie
 
-returns : tie.Need-returns
+returns : tie.Need-returns-then-byte-eq-SPACE
 unfolding white
-returns c = simp (eq-eqb _ _ c.if1.true)
+returns c = simp (eq-eqb _ _ c.if-byte-eq-SPACE.true)
 
-returns-2 : tie.Need-returns-2
+returns-2 : tie.Need-returns-then-byte-eq-TAB
 unfolding white
-returns-2 c = simp (ne_eqb _ _ c.before.if1.false, eq-eqb _ _ c.if2.true)
+returns-2 c = simp (ne_eqb _ _ c.before.if-byte-eq-SPACE.false, eq-eqb _ _ c.if-byte-eq-TAB.true)
 
-returns-3 : tie.Need-returns-3
+returns-3 : tie.Need-returns-then-byte-eq-CARRIAGE_RETURN
 unfolding white
-returns-3 c = simp (ne_eqb _ _ c.before.before.if1.false, ne_eqb _ _ c.before.if2.false, eq-eqb _ _ c.if3.true)
+returns-3 c = simp (ne_eqb _ _ c.before.before.if-byte-eq-SPACE.false, ne_eqb _ _ c.before.if-byte-eq-TAB.false, eq-eqb _ _ c.if-byte-eq-CARRIAGE_RETURN.true)
 
-returns-4 : tie.Need-returns-4
-returns-4 c = sym (white_last c.before.before.before.args.byte c.before.before.if1.false c.before.if2.false c.if3.false)
+returns-4 : tie.Need-returns
+returns-4 c = sym (white_last c.before.before.before.args.byte c.before.before.if-byte-eq-SPACE.false c.before.if-byte-eq-TAB.false c.if-byte-eq-CARRIAGE_RETURN.false)
 
 pub is_white_spec : {M : Type 1} → statement M
 is_white_spec = tie.close (tie.spec returns returns-2 returns-3 returns-4)

@@ -11,13 +11,13 @@ use Rattle.image.proofs.LargestPixel.{largest_on}
 use Rattle.image.proofs.pairs.largest_of.Statement.{statement}
 use Rattle.image.proofs.pairs.largest_of.Tie as tie
 
-largest-of-halves-requires : tie.Need-largest-of-halves-requires
+largest-of-halves-requires : tie.Need-largest_of_halves-most-requires
 largest-of-halves-requires c κs = search rules
 
-mul-if1 : tie.Need-overflow-mul-if1
+mul-if1 : tie.Need-overflow_mul-half
 mul-if1 c = search rules
 
-mul-pixel : tie.Need-overflow-mul-pixel
+mul-pixel : tie.Need-overflow_mul-half-then-half-count
 mul-pixel c = search rules
 
 pixel-requires : tie.Need-pixel-requires
@@ -26,20 +26,20 @@ pixel-requires c κs = search rules
 larger-requires : tie.Need-larger-requires
 larger-requires c κs = search rules
 
-returns : tie.Need-returns
+returns : tie.Need-returns-then-half-count
 returns c = let halves = c.before.before.before in
     let a = halves.before.before.args in
     let raster = a.raster.now in
     let last = 2 * (a.count / 2) in
     let one_more : last + 1 ≡ a.count = omega arith in
-    largest_on (pixel_at 2 raster) last c.larger.ensures halves.largest-of-halves.ensures (c.before.pixel.ensures ∙ pixel_part 2 raster last)
+    largest_on (pixel_at 2 raster) last c.larger.ensures halves.largest_of_halves-most.ensures (c.before.pixel.ensures ∙ pixel_part 2 raster last)
     ∙ ap (largest (pixel_at 2 raster)) one_more
 
-returns-2 : tie.Need-returns-2
+returns-2 : tie.Need-returns
 returns-2 c = let halves = c.before in
     let a = halves.before.before.args in
     let all : 2 * (a.count / 2) ≡ a.count = omega arith in
-    halves.largest-of-halves.ensures ∙ ap (largest (pixel_at 2 a.raster.now)) all
+    halves.largest_of_halves-most.ensures ∙ ap (largest (pixel_at 2 a.raster.now)) all
 
 pub largest_of_spec : {M : Type 1} → statement M
 largest_of_spec =

@@ -5,23 +5,23 @@ use native.Mathlib.Omega.{arith}
 use Rattle.image.proofs.pairs.low_first.Statement.{statement}
 use Rattle.image.proofs.pairs.low_first.Tie as tie
 
-shared-slice-read-result : tie.Need-shared-slice-read-result
+shared-slice-read-result : tie.Need-bounds-pair-0
 shared-slice-read-result c = search rules
 
-cast-result : tie.Need-overflow-cast-result
-cast-result c = omega (arith, c.shared-slice-known.given 0)
+cast-result : tie.Need-overflow_cast-result
+cast-result c = omega (arith, c.shared_slice_known-1.given 0)
 
-shared-slice-read-result-2 : tie.Need-shared-slice-read-result-2
+shared-slice-read-result-2 : tie.Need-bounds-pair-1
 shared-slice-read-result-2 c = search rules
 
-cast-result-2 : tie.Need-overflow-cast-result-2
-cast-result-2 c = omega (arith, c.shared-slice-known2.given 1)
+cast-result-2 : tie.Need-overflow_cast-result-2
+cast-result-2 c = omega (arith, c.shared_slice_known-2-1.given 1)
 
-mul-result : tie.Need-overflow-mul-result
-mul-result c = omega (arith, c.shared-slice-known2.given 1)
+mul-result : tie.Need-overflow_mul-result
+mul-result c = omega (arith, c.shared_slice_known-2-1.given 1)
 
-add-result : tie.Need-overflow-add-result
-add-result c = omega (arith, c.shared-slice-known2.given 0, c.shared-slice-known2.given 1)
+add-result : tie.Need-overflow_add-result
+add-result c = omega (arith, c.shared_slice_known-2-1.given 0, c.shared_slice_known-2-1.given 1)
 
 returns : tie.Need-returns
 returns c = search rules

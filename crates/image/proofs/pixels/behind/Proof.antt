@@ -9,15 +9,15 @@ use Rattle.image.proofs.pixels.behind.Tie as tie
 refused-requires : tie.Need-refused-requires
 refused-requires c κs = search rules
 
-returns : tie.Need-returns
-returns c = rw (c.refused.ensures, told_stopped _ c.before.before.before.before.args.maxval c.before.if1.true) refl
+returns : tie.Need-returns-then-maxval-ne0
+returns c = rw (c.refused.ensures, told_stopped _ c.before.before.before.before.args.maxval c.before.if-maxval-ne0.true) refl
 
 judge-requires : tie.Need-judge-requires
 judge-requires c κs = search rules
 
-returns-2 : tie.Need-returns-2
+returns-2 : tie.Need-returns
 returns-2 c = let a = c.before.before.before.before.args in
-    rw (c.judge.ensures, told_found _ a.maxval c.before.if1.false) refl
+    rw (c.judge.ensures, told_found _ a.maxval c.before.if-maxval-ne0.false) refl
 
 pub behind_spec : {M : Type 1} → statement M
 behind_spec = tie.close (tie.spec refused-requires returns judge-requires returns-2)

@@ -10,41 +10,41 @@ use Rattle.image.proofs.LargestPixel.{largest_on}
 use Rattle.image.proofs.pixels.largest_of.Statement.{statement}
 use Rattle.image.proofs.pixels.largest_of.Tie as tie
 
-abbrev invariant-loop : tie.invariant-loop
+abbrev invariant-loop : tie.invariant-loop-i
 invariant-loop raster count quarter most₀ i₀ most i = (i ≤ count) × (most ≡ largest (pixel_at 1 raster) i)
 
-abbrev decreases-loop : tie.decreases-loop
+abbrev decreases-loop : tie.decreases-loop-i
 decreases-loop raster count quarter most₀ i₀ most i = count - i
 
-largest-of-quarters-requires : tie.Need-largest-of-quarters-requires invariant-loop decreases-loop
+largest-of-quarters-requires : tie.Need-largest_of_quarters-most-requires invariant-loop decreases-loop
 largest-of-quarters-requires c κs = omega arith
 
-mul-i : tie.Need-overflow-mul-i invariant-loop decreases-loop
+mul-i : tie.Need-overflow_mul-i invariant-loop decreases-loop
 mul-i c = omega arith
 
-loop-holds : tie.Need-loop-init invariant-loop decreases-loop
-loop-holds c = (omega arith, c.largest-of-quarters.ensures)
+loop-holds : tie.Need-loop-i-init invariant-loop decreases-loop
+loop-holds c = (omega arith, c.largest_of_quarters-most.ensures)
 
-shared-slice-read-larger : tie.Need-shared-slice-read-larger invariant-loop decreases-loop
+shared-slice-read-larger : tie.Need-bounds-raster-i invariant-loop decreases-loop
 shared-slice-read-larger c = omega arith
 
-larger-requires : tie.Need-larger-requires invariant-loop decreases-loop
+larger-requires : tie.Need-larger-most-requires invariant-loop decreases-loop
 larger-requires c κs = tt
 
-add-i : tie.Need-overflow-add-i invariant-loop decreases-loop
+add-i : tie.Need-overflow_add-i invariant-loop decreases-loop
 add-i c = omega arith
 
-loop-less : tie.Need-loop-smaller invariant-loop decreases-loop
+loop-less : tie.Need-loop-i-smaller invariant-loop decreases-loop
 loop-less c = omega arith
 
-loop-again : tie.Need-loop-preserved invariant-loop decreases-loop
+loop-again : tie.Need-loop-i-preserved invariant-loop decreases-loop
 loop-again c = let turn = c.before.before.before in
-    let l = turn.loop in
+    let l = turn.loop-i in
     let raster = turn.before.before.before.args.raster.now in
-    (omega arith, largest_on (pixel_at 1 raster) l.i c.larger.ensures l.invariant.1 (sym (pixel_one raster l.i)))
+    (omega arith, largest_on (pixel_at 1 raster) l.i c.larger-most.ensures l.invariant.1 (sym (pixel_one raster l.i)))
 
 returns : tie.Need-returns invariant-loop decreases-loop
-returns c = let l = c.before.loop in
+returns c = let l = c.before.loop-i in
     let a = c.before.before.before.before.args in
     let all : l.i ≡ a.count = omega arith in
     l.invariant.1 ∙ ap (largest (pixel_at 1 a.raster.now)) all

@@ -11,7 +11,7 @@ use Rattle.image.proofs.LargestPixel.{largest_none, largest_on, largest_quarters
 use Rattle.image.proofs.pixels.largest_of_quarters.Statement.{statement}
 use Rattle.image.proofs.pixels.largest_of_quarters.Tie as tie
 
-abbrev invariant-loop : tie.invariant-loop
+abbrev invariant-loop : tie.invariant-loop-i
 invariant-loop raster quarter first₀ second₀ third₀ fourth₀ i₀ first second third fourth i =
     (i ≤ quarter)
     × (first ≡ largest (pixel_at 1 raster) i)
@@ -19,18 +19,18 @@ invariant-loop raster quarter first₀ second₀ third₀ fourth₀ i₀ first s
     × (third ≡ largest (λ k. pixel_at 1 raster (2 * quarter + k)) i)
     × (fourth ≡ largest (λ k. pixel_at 1 raster (3 * quarter + k)) i)
 
-abbrev decreases-loop : tie.decreases-loop
+abbrev decreases-loop : tie.decreases-loop-i
 decreases-loop raster quarter first₀ second₀ third₀ fourth₀ i₀ first second third fourth i = quarter - i
 
 -- a turn of the loop, and what came before it
-module _ (c : tie.After-larger4 invariant-loop decreases-loop) where
-  abbrev two : tie.After-larger2 invariant-loop decreases-loop
+module _ (c : tie.After-larger-fourth invariant-loop decreases-loop) where
+  abbrev two : tie.After-larger-second invariant-loop decreases-loop
   two = c.before.before.before.before
 
-  abbrev one : tie.After-larger invariant-loop decreases-loop
+  abbrev one : tie.After-larger-first invariant-loop decreases-loop
   one = two.before.before
 
-  abbrev turn : tie.At-loop invariant-loop decreases-loop
+  abbrev turn : tie.At-loop-i invariant-loop decreases-loop
   turn = one.before.before.before
 
   abbrev raster : List ℕ
@@ -39,7 +39,7 @@ module _ (c : tie.After-larger4 invariant-loop decreases-loop) where
   abbrev quarter : ℕ
   quarter = turn.before.before.args.quarter
 
-loop-holds : tie.Need-loop-init invariant-loop decreases-loop
+loop-holds : tie.Need-loop-i-init invariant-loop decreases-loop
 loop-holds c = let a = c.before.args in
     let pixel = pixel_at 1 a.raster.now in (
       omega arith,
@@ -49,82 +49,82 @@ loop-holds c = let a = c.before.args in
       sym (largest_none (λ k. pixel (3 * a.quarter + k))),
     )
 
-shared-slice-read-larger : tie.Need-shared-slice-read-larger invariant-loop decreases-loop
+shared-slice-read-larger : tie.Need-bounds-raster-i invariant-loop decreases-loop
 shared-slice-read-larger c = omega arith
 
-larger-requires : tie.Need-larger-requires invariant-loop decreases-loop
+larger-requires : tie.Need-larger-first-requires invariant-loop decreases-loop
 larger-requires c κs = tt
 
-add-larger : tie.Need-overflow-add-larger invariant-loop decreases-loop
+add-larger : tie.Need-overflow_add-quarter invariant-loop decreases-loop
 add-larger c = omega arith
 
-shared-slice-read-larger-2 : tie.Need-shared-slice-read-larger-2 invariant-loop decreases-loop
+shared-slice-read-larger-2 : tie.Need-bounds-raster-quarter invariant-loop decreases-loop
 shared-slice-read-larger-2 c = omega arith
 
-larger-requires-2 : tie.Need-larger-requires-2 invariant-loop decreases-loop
+larger-requires-2 : tie.Need-larger-second-requires invariant-loop decreases-loop
 larger-requires-2 c κs = tt
 
-mul-larger : tie.Need-overflow-mul-larger invariant-loop decreases-loop
+mul-larger : tie.Need-overflow_mul-quarter invariant-loop decreases-loop
 mul-larger c = omega arith
 
-add-larger-2 : tie.Need-overflow-add-larger-2 invariant-loop decreases-loop
+add-larger-2 : tie.Need-overflow_add-quarter-in-loop-i invariant-loop decreases-loop
 add-larger-2 c = omega arith
 
-shared-slice-read-larger-3 : tie.Need-shared-slice-read-larger-3 invariant-loop decreases-loop
+shared-slice-read-larger-3 : tie.Need-bounds-raster-quarter-in-loop-i invariant-loop decreases-loop
 shared-slice-read-larger-3 c = omega arith
 
-larger-requires-3 : tie.Need-larger-requires-3 invariant-loop decreases-loop
+larger-requires-3 : tie.Need-larger-third-requires invariant-loop decreases-loop
 larger-requires-3 c κs = tt
 
-mul-larger-2 : tie.Need-overflow-mul-larger-2 invariant-loop decreases-loop
+mul-larger-2 : tie.Need-overflow_mul-quarter-in-loop-i invariant-loop decreases-loop
 mul-larger-2 c = omega arith
 
-add-larger-3 : tie.Need-overflow-add-larger-3 invariant-loop decreases-loop
+add-larger-3 : tie.Need-overflow_add-quarter-in-loop-i-2 invariant-loop decreases-loop
 add-larger-3 c = omega arith
 
-shared-slice-read-larger-4 : tie.Need-shared-slice-read-larger-4 invariant-loop decreases-loop
+shared-slice-read-larger-4 : tie.Need-bounds-raster-quarter-in-loop-i-2 invariant-loop decreases-loop
 shared-slice-read-larger-4 c = omega arith
 
-larger-requires-4 : tie.Need-larger-requires-4 invariant-loop decreases-loop
+larger-requires-4 : tie.Need-larger-fourth-requires invariant-loop decreases-loop
 larger-requires-4 c κs = tt
 
-add-i : tie.Need-overflow-add-i invariant-loop decreases-loop
+add-i : tie.Need-overflow_add-i invariant-loop decreases-loop
 add-i c = omega arith
 
-loop-less : tie.Need-loop-smaller invariant-loop decreases-loop
+loop-less : tie.Need-loop-i-smaller invariant-loop decreases-loop
 loop-less c = omega arith
 
-loop-again : tie.Need-loop-preserved invariant-loop decreases-loop
-loop-again c = let l = (turn c).loop in
+loop-again : tie.Need-loop-i-preserved invariant-loop decreases-loop
+loop-again c = let l = (turn c).loop-i in
     let pixel = pixel_at 1 (raster c) in
     let q = quarter c in (
       omega arith,
-      largest_on pixel l.i (one c).larger.ensures l.inv.1 (sym (pixel_one (raster c) l.i)),
-      largest_on (λ k. pixel (q + k)) l.i (two c).larger2.ensures l.inv.2 (sym (pixel_one (raster c) (q + l.i))),
-      largest_on (λ k. pixel (2 * q + k)) l.i c.before.before.larger3.ensures l.inv.3 (sym (pixel_one (raster c) (2 * q + l.i))),
-      largest_on (λ k. pixel (3 * q + k)) l.i c.larger4.ensures l.inv.4 (sym (pixel_one (raster c) (3 * q + l.i))),
+      largest_on pixel l.i (one c).larger-first.ensures l.invariant.1 (sym (pixel_one (raster c) l.i)),
+      largest_on (λ k. pixel (q + k)) l.i (two c).larger-second.ensures l.invariant.2 (sym (pixel_one (raster c) (q + l.i))),
+      largest_on (λ k. pixel (2 * q + k)) l.i c.before.before.larger-third.ensures l.invariant.3 (sym (pixel_one (raster c) (2 * q + l.i))),
+      largest_on (λ k. pixel (3 * q + k)) l.i c.larger-fourth.ensures l.invariant.4 (sym (pixel_one (raster c) (3 * q + l.i))),
     )
 
-larger-requires-5 : tie.Need-larger-requires-5 invariant-loop decreases-loop
+larger-requires-5 : tie.Need-larger-requires invariant-loop decreases-loop
 larger-requires-5 c κs = tt
 
-larger-requires-6 : tie.Need-larger-requires-6 invariant-loop decreases-loop
+larger-requires-6 : tie.Need-larger-requires-2 invariant-loop decreases-loop
 larger-requires-6 c κs = tt
 
-larger-requires-7 : tie.Need-larger-requires-7 invariant-loop decreases-loop
+larger-requires-7 : tie.Need-larger-requires-3 invariant-loop decreases-loop
 larger-requires-7 c κs = tt
 
 returns : tie.Need-returns invariant-loop decreases-loop
 returns c = let end = c.before.before.before.before in
-    let l = end.loop in
+    let l = end.loop-i in
     let a = end.before.before.args in
     let pixel = pixel_at 1 a.raster.now in
     let q = a.quarter in
     let all : l.i ≡ q = omega arith in
-    c.larger7.ensures
+    c.larger-3.ensures
     ∙ ap₂ max
-    (c.before.before.larger5.ensures ∙ ap₂ max (l.invariant.1 ∙ ap (largest pixel) all) (l.invariant.2 ∙ ap (largest (λ k. pixel (q + k))) all))
-    (c.before.larger6.ensures ∙ ap₂ max (l.invariant.3 ∙ ap (largest (λ k. pixel (2 * q + k))) all) (l.invariant.4 ∙ ap (largest (λ k. pixel (3 * q + k))) all))
+    (c.before.before.larger.ensures ∙ ap₂ max (l.invariant.1 ∙ ap (largest pixel) all) (l.invariant.2 ∙ ap (largest (λ k. pixel (q + k))) all))
+    (c.before.larger-2.ensures ∙ ap₂ max (l.invariant.3 ∙ ap (largest (λ k. pixel (2 * q + k))) all) (l.invariant.4 ∙ ap (largest (λ k. pixel (3 * q + k))) all))
     ∙ largest_quarters pixel q
 
 pub largest_of_quarters_spec : {M : Type 1} → statement M

@@ -11,16 +11,16 @@ use Rattle.image.proofs.pixels.missing.Tie as tie
 readable-requires : tie.Need-readable-requires
 readable-requires c κs = search rules
 
-returns : tie.Need-returns
+returns : tie.Need-returns-then-used-readable
 returns c = let a = c.before.before.before.args in
     rw (le-ltb limit a.used (omega arith), le-ltb (length a.s.now) a.used (omega arith))
 
-returns-2 : tie.Need-returns-2
-returns-2 c = rw (lt-ltb _ _ c.if2.true)
+returns-2 : tie.Need-returns-then-used-gt-LIMIT
+returns-2 c = rw (lt-ltb _ _ c.if-used-gt-LIMIT.true)
 
-returns-3 : tie.Need-returns-3
+returns-3 : tie.Need-returns
 returns-3 c = let a = c.before.before.before.before.args in
-    rw (le-ltb _ _ c.if2.false, lt-ltb (length a.s.now) a.used (omega arith))
+    rw (le-ltb _ _ c.if-used-gt-LIMIT.false, lt-ltb (length a.s.now) a.used (omega arith))
 
 pub missing_spec : {M : Type 1} → statement M
 missing_spec = tie.close (tie.spec readable-requires returns returns-2 returns-3)

@@ -30,32 +30,32 @@ module _ (raster : List ℕ) (positions maxval : ℕ) {per : ℕ} (is_per : pixe
   largest_decides : {most : ℕ} → most ≡ largest (pixel_at per raster) positions → ltb maxval most ≡ some_above
   largest_decides is-most = rw is_per (ap (ltb maxval) is-most ∙ sym (some_above_lem maxval (pixel_at per raster) positions))
 
-returns : tie.Need-returns
-returns c = none_above _ _ _ (pixel_bytes_one _ (omega arith)) (omega arith) λ i. omega (arith, c.before.shared-slice-known.given i)
+returns : tie.Need-returns-then-maxval-eq-BYTE_MOST
+returns c = none_above _ _ _ (pixel_bytes_one _ (omega arith)) (omega arith) λ i. omega (arith, c.before.shared_slice_known-1.given i)
 
-largest-of-requires : tie.Need-largest-of-requires
+largest-of-requires : tie.Need-largest_of-requires
 largest-of-requires c κs = let a = c.before.before.before.args in
     omega (arith, ap (λ (k : ℕ). a.positions * k) (pixel_bytes_one a.maxval (omega arith)))
 
-cast-result : tie.Need-overflow-cast-result
+cast-result : tie.Need-overflow_cast-result
 cast-result c = search rules
 
-returns-2 : tie.Need-returns-2
-returns-2 c = largest_decides _ _ _ (pixel_bytes_one _ (omega arith)) c.largest-of.ensures
+returns-2 : tie.Need-returns-then-maxval-lt-BYTE_MOST
+returns-2 c = largest_decides _ _ _ (pixel_bytes_one _ (omega arith)) c.largest_of.ensures
 
-returns-3 : tie.Need-returns-3
-returns-3 c = let known = c.before.before.before.shared-slice-known in
+returns-3 : tie.Need-returns-then-maxval-ge-PAIR_MOST
+returns-3 c = let known = c.before.before.before.shared_slice_known-1 in
     none_above _ _ _ (pixel_bytes_two _ (omega arith)) (omega arith) λ i. omega (arith, known.given i)
 
-largest-of-requires-2 : tie.Need-largest-of-requires-2
+largest-of-requires-2 : tie.Need-largest_of-requires-2
 largest-of-requires-2 c κs = let a = c.before.before.before.before.args in
     omega (arith, ap (λ (k : ℕ). a.positions * k) (pixel_bytes_two a.maxval (omega arith)))
 
-cast-result-2 : tie.Need-overflow-cast-result-2
+cast-result-2 : tie.Need-overflow_cast-result-2
 cast-result-2 c = search rules
 
-returns-4 : tie.Need-returns-4
-returns-4 c = largest_decides _ _ _ (pixel_bytes_two _ (omega arith)) c.largest-of2.ensures
+returns-4 : tie.Need-returns
+returns-4 c = largest_decides _ _ _ (pixel_bytes_two _ (omega arith)) c.largest_of-2.ensures
 
 pub too_large_spec : {M : Type 1} → statement M
 too_large_spec =

@@ -6,11 +6,11 @@ use native.Mathlib.Omega.{arith}
 use Rattle.lit.proofs.ones.byte.Statement.{statement}
 use Rattle.lit.proofs.ones.byte.Tie as tie
 
-cast-result : tie.Need-overflow-cast-result
-cast-result c = omega (arith, c.shared-slice-known.given c.before.args.at)
+cast-result : tie.Need-overflow_cast-result
+cast-result c = omega (arith, c.shared_slice_known-1.given c.before.args.at)
 
 returns : tie.Need-returns
-returns c = (refl, omega (arith, c.shared-slice-known.given c.before.args.at))
+returns c = (refl, omega (arith, c.shared_slice_known-1.given c.before.args.at))
 
 pub byte_spec : {M : Type 1} → statement M
 byte_spec = tie.close (tie.spec (λ c. search rules) cast-result returns)

@@ -9,7 +9,7 @@ use Rattle.lit.proofs.ones.of_bytes.Statement.{statement}
 use Rattle.lit.proofs.ones.of_bytes.Tie as tie
 
 returns : tie.Need-returns
-returns c = join_counted c.before.of-groups.ensures c.of-groups2.ensures (omega arith) (omega arith)
+returns c = join_counted c.before.of_groups.ensures c.of_groups-2.ensures (omega arith) (omega arith)
 
 pub of_bytes_spec : {M : Type 1} → statement M
 of_bytes_spec =

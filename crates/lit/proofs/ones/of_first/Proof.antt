@@ -7,7 +7,7 @@ use Rattle.lit.proofs.ones.of_first.Statement.{statement}
 use Rattle.lit.proofs.ones.of_first.Tie as tie
 
 returns : tie.Need-returns
-returns c = join_counted c.before.of-bytes.ensures c.of_part.ensures (omega arith) (omega arith)
+returns c = join_counted c.before.of_bytes.ensures c.of_part.ensures (omega arith) (omega arith)
 
 pub of_first_spec : {M : Type 1} → statement M
 of_first_spec = tie.close (tie.spec (λ c κs. search rules) (λ c κs. search rules) (λ c. omega (arith, counted_le (returns c))) returns)

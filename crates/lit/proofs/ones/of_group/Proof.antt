@@ -9,27 +9,27 @@ use Rattle.lit.proofs.ones.of_group.Statement.{statement}
 use Rattle.lit.proofs.ones.of_group.Tie as tie
 
 -- a group that is not of eight bytes is of one
-one : (c : tie.Else1) → c.before.before.args.size ≡ 1
+one : (c : tie.Else-size-eq8) → c.before.before.args.size ≡ 1
 one c = by c.before.before.requires.0
   where
     by : (c.before.before.args.size ≡ 8) ⊎ (c.before.before.args.size ≡ 1) → c.before.before.args.size ≡ 1
-    by (inl eight) = absurd (c.if1.false eight)
+    by (inl eight) = absurd (c.if-size-eq8.false eight)
     by (inr single) = single
 
-returns : tie.Need-returns
+returns : tie.Need-returns-then-size-eq8
 returns c = let p = c.before.before.before in
     let a = p.before.args in
-    rw (c.before.before.if1.true, c.of_number.ensures, c.before.word.ensures)
-    (low_counted a.row.now (λ i. (p.shared-slice-known.given i).fits) a.at 7 (omega arith))
+    rw (c.before.before.if-size-eq8.true, c.of_number.ensures, c.before.word.ensures)
+    (low_counted a.row.now (λ i. (p.shared_slice_known-1.given i).fits) a.at 7 (omega arith))
 
 byte-requires : tie.Need-byte-requires
 byte-requires c κs = omega (arith, one c)
 
-returns-2 : tie.Need-returns-2
+returns-2 : tie.Need-returns
 returns-2 c = let p = c.before.before.before in
     let a = p.before.args in
-    rw (one c.before.before, c.of-number2.ensures, c.before.byte.ensures.0)
-    (byte_counted a.row.now (λ i. (p.shared-slice-known.given i).fits) a.at (omega (arith, one c.before.before)))
+    rw (one c.before.before, c.of_number-2.ensures, c.before.byte.ensures.0)
+    (byte_counted a.row.now (λ i. (p.shared_slice_known-1.given i).fits) a.at (omega (arith, one c.before.before)))
 
 pub of_group_spec : {M : Type 1} → statement M
 of_group_spec =

@@ -8,31 +8,31 @@ use Rattle.lit.proofs.CountingOnes.{none_counted, counted_le, join_counted, grou
 use Rattle.lit.proofs.ones.of_groups.Statement.{statement}
 use Rattle.lit.proofs.ones.of_groups.Tie as tie
 
-abbrev invariant-loop : tie.invariant-loop
+abbrev invariant-loop : tie.invariant-loop-i
 invariant-loop row first size groups sum₀ i₀ sum i = (i ≤ groups) × Counted row (first * 8) (i * size * 8) sum
 
-abbrev decreases-loop : tie.decreases-loop
+abbrev decreases-loop : tie.decreases-loop-i
 decreases-loop row first size groups sum₀ i₀ sum i = groups - i
 
-loop-holds : tie.Need-loop-init invariant-loop decreases-loop
+loop-holds : tie.Need-loop-i-init invariant-loop decreases-loop
 loop-holds c = let a = c.before.args in (omega arith, none_counted a.row.now (a.first * 8) (0 * a.size * 8) (omega arith))
 
 -- the bytes of the i-th group are among those of all groups
-within : (c : tie.In-loop invariant-loop decreases-loop)
-    → let a = c.before.before.before.args in c.before.loop.i * a.size + a.size ≤ a.groups * a.size
+within : (c : tie.In-loop-i invariant-loop decreases-loop)
+    → let a = c.before.before.before.args in c.before.loop-i.i * a.size + a.size ≤ a.groups * a.size
 within c = group_within c.before.before.before.args.size (omega arith)
 
 -- what is counted so far, and one group more
-one_more : (c : tie.After-of-group invariant-loop decreases-loop)
+one_more : (c : tie.After-of_group-sum invariant-loop decreases-loop)
     → let a = c.before.before.before.before.args in
-    let l = c.before.before.loop in
-    Counted a.row.now (a.first * 8) ((l.i + 1) * a.size * 8) (l.sum + c.of-group.result)
-one_more c = join_counted c.before.before.loop.invariant.1 c.of-group.ensures (omega arith) (omega arith)
+    let l = c.before.before.loop-i in
+    Counted a.row.now (a.first * 8) ((l.i + 1) * a.size * 8) (l.sum + c.of_group-sum.result)
+one_more c = join_counted c.before.before.loop-i.invariant.1 c.of_group-sum.ensures (omega arith) (omega arith)
 
 returns : tie.Need-returns invariant-loop decreases-loop
 returns c = let a = c.before.before.before.args in
-    let all : c.before.loop.i ≡ a.groups = omega arith in
-    rw all at c.before.loop.invariant.1
+    let all : c.before.loop-i.i ≡ a.groups = omega arith in
+    rw all at c.before.loop-i.invariant.1
 
 pub of_groups_spec : {M : Type 1} → statement M
 of_groups_spec =

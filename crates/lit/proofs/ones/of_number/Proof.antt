@@ -6,7 +6,7 @@ use lib.Count.{ones-le}
 use Rattle.lit.proofs.ones.of_number.Statement.{statement}
 use Rattle.lit.proofs.ones.of_number.Tie as tie
 
-cast-result : tie.Need-overflow-cast-result
+cast-result : tie.Need-overflow_cast-result
 cast-result c = omega (arith, ones-le 64 c.args.x c.ranges.x.fits)
 
 pub of_number_spec : {M : Type 1} → statement M

@@ -7,14 +7,14 @@ use Rattle.lit.proofs.CountingOnes.{none_counted, part_counted}
 use Rattle.lit.proofs.ones.of_part.Statement.{statement}
 use Rattle.lit.proofs.ones.of_part.Tie as tie
 
-returns : tie.Need-returns
-returns c = let a = c.before.before.args in none_counted a.row.now (a.at * 8) a.n c.if1.true
+returns : tie.Need-returns-then-n-eq0
+returns c = let a = c.before.before.args in none_counted a.row.now (a.at * 8) a.n c.if-n-eq0.true
 
-returns-2 : tie.Need-returns-2
+returns-2 : tie.Need-returns
 returns-2 c = let p = c.before.before.before in
     let a = p.before.args in
     rw (c.of_number.ensures, c.before.byte.ensures.0)
-    (part_counted a.row.now (λ i. (p.shared-slice-known.given i).fits) a.at (omega arith) a.n (omega arith))
+    (part_counted a.row.now (λ i. (p.shared_slice_known-1.given i).fits) a.at (omega arith) a.n (omega arith))
 
 pub of_part_spec : {M : Type 1} → statement M
 of_part_spec =

@@ -15,9 +15,9 @@ behind_some : (t : ℕ) (row : List ℕ) → (t ≡ 0 → ⊥) → select_of t r
 behind_some zero row some = absurd (some refl)
 behind_some (suc t) row some = refl
 
-returns-2 : tie.Need-returns-2
+returns-2 : tie.Need-returns
 returns-2 c = let a = c.before.before.before.args in
-    ap (λ (p : ℕ). p + 1) c.kth.ensures.0 ∙ behind_some a.t (frames a.row.now a.count) c.before.if1.false
+    ap (λ (p : ℕ). p + 1) c.kth.ensures.0 ∙ behind_some a.t (frames a.row.now a.count) c.before.if-t-eq0.false
 
 pub behind_spec : {M : Type 1} → statement M
 behind_spec = tie.close (tie.spec (λ c. search rules) (λ c κs. search rules) (λ c. search rules) returns-2)

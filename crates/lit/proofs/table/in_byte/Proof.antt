@@ -7,11 +7,11 @@ use Rattle.lit.proofs.TableOfPlaces.{by_table, none_beyond}
 use Rattle.lit.proofs.table.in_byte.Statement.{statement}
 use Rattle.lit.proofs.table.in_byte.Tie as tie
 
-returns-2 : tie.Need-returns-2
-returns-2 c = let a = c.before.before.args in none_beyond a.byte a.k c.if2.true
+returns-2 : tie.Need-returns-then-k-gt8
+returns-2 c = let a = c.before.before.args in none_beyond a.byte a.k c.if-k-gt8.true
 
 -- the whole table at once: `entries 2048 0`, which is what its rule comes to, is compared by computing with the constant that the code reads
-returns-3 : tie.Need-returns-3
+returns-3 : tie.Need-returns
 unfolding one_places
 returns-3 c = let a = c.before.before.args in
     by_table a.byte a.k (omega (arith, c.before.before.ranges.byte.fits)) (omega arith) (omega arith)

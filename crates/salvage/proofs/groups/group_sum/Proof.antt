@@ -8,7 +8,7 @@ use Rattle.sums.proofs.Promises.{ring_sums}
 use Rattle.salvage.proofs.groups.group_sum.Statement.{statement}
 use Rattle.salvage.proofs.groups.group_sum.Tie as tie
 
-sub-sum : tie.Need-overflow-sub-sum
+sub-sum : tie.Need-overflow_sub-end
 sub-sum c = search rules
 
 sum-requires : tie.Need-sum-requires

@@ -40,27 +40,27 @@ module _ (book : Book) {block : ℕ} (own : block ≡ block_of book) where
   kept_stays zero some more = absurd (some refl)
   kept_stays (suc newer) some more = omega (arith, more, items_newer newer)
 
-returns : tie.Need-returns
-returns c = kept_all c.before.args.book c.if1.true
+returns : tie.Need-returns-then-nth-eq0
+returns c = kept_all c.before.args.book c.if-nth-eq0.true
 
-sub-newer : tie.Need-overflow-sub-newer
+sub-newer : tie.Need-overflow_sub-newer
 sub-newer c = search rules
 
-mul-newer : tie.Need-overflow-mul-newer
+mul-newer : tie.Need-overflow_mul-newer
 mul-newer c = let s = c.before in
     omega (arith, product_top s.requires.0 s.requires.1)
 
-add-newer : tie.Need-overflow-add-newer
+add-newer : tie.Need-overflow_add-newer
 add-newer c = let s = c.before.before in
     omega (arith, product_top s.requires.0 s.requires.1, s.requires.2)
 
-returns-2 : tie.Need-returns-2
+returns-2 : tie.Need-returns-then-newer-book
 returns-2 c = let s = c.before.before.before.before in
-    kept_fewer s.args.book s.requires.3 s.args.nth c.before.before.before.if1.false c.if2.true
+    kept_fewer s.args.book s.requires.3 s.args.nth c.before.before.before.if-nth-eq0.false c.if-newer-book.true
 
-returns-3 : tie.Need-returns-3
+returns-3 : tie.Need-returns-else-newer-book
 returns-3 c = let s = c.before.before.before.before in
-    kept_stays s.args.book s.requires.3 s.args.nth c.before.before.before.if1.false c.if2.false
+    kept_stays s.args.book s.requires.3 s.args.nth c.before.before.before.if-nth-eq0.false c.if-newer-book.false
 
 pub kept_spec : {M : Type 1} → statement M
 kept_spec = tie.close (tie.spec returns sub-newer mul-newer add-newer returns-2 returns-3)

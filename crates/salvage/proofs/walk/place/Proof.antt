@@ -7,19 +7,19 @@ use Rattle.ring.proofs.Promises.{newest_near, newest_far}
 use Rattle.salvage.proofs.walk.place.Statement.{statement}
 use Rattle.salvage.proofs.walk.place.Tie as tie
 
-add-result : tie.Need-overflow-add-result
+add-result : tie.Need-overflow_add-result
 add-result c = search rules
 
-sub-result : tie.Need-overflow-sub-result
+sub-result : tie.Need-overflow_sub-result-else-j-head
 sub-result c = search rules
 
-returns : tie.Need-returns
+returns : tie.Need-returns-then-j-head
 returns c = let a = c.before.args in
-    sym (newest_near a.slots a.head a.j c.if1.true)
+    sym (newest_near a.slots a.head a.j c.if-j-head.true)
 
-returns-2 : tie.Need-returns-2
+returns-2 : tie.Need-returns-else-j-head
 returns-2 c = let a = c.before.args in
-    sym (newest_far a.slots a.head a.j c.if1.false (omega arith))
+    sym (newest_far a.slots a.head a.j c.if-j-head.false (omega arith))
 
 pub place_spec : {M : Type 1} → statement M
 place_spec = tie.close (tie.spec add-result sub-result returns returns-2)

@@ -8,39 +8,39 @@ use Rattle.sums.proofs.RunTurns.{one_above, none_passed}
 use Rattle.sums.proofs.judge.any_above.Statement.{statement}
 use Rattle.sums.proofs.judge.any_above.Tie as tie
 
-abbrev invariant-loop : tie.invariant-loop
+abbrev invariant-loop : tie.invariant-loop-i
 invariant-loop bound counts i₀ i = (i ≤ length counts) × ((k : ℕ) → k < i → get_or counts k 0 ≤ bound)
 
-abbrev decreases-loop : tie.decreases-loop
+abbrev decreases-loop : tie.decreases-loop-i
 decreases-loop bound counts i₀ i = length counts - i
 
-loop-holds : tie.Need-loop-init invariant-loop decreases-loop
+loop-holds : tie.Need-loop-i-init invariant-loop decreases-loop
 loop-holds c = search rules
 
-mul-if1 : tie.Need-overflow-mul-if1 invariant-loop decreases-loop
+mul-if1 : tie.Need-offset_bounds-counts-i invariant-loop decreases-loop
 mul-if1 c = search rules
 
-shared-slice-read-if1 : tie.Need-shared-slice-read-if1 invariant-loop decreases-loop
+shared-slice-read-if1 : tie.Need-bounds-counts-i invariant-loop decreases-loop
 shared-slice-read-if1 c = search rules
 
-returns : tie.Need-returns invariant-loop decreases-loop
+returns : tie.Need-returns-then-bound-counts invariant-loop decreases-loop
 returns c = let stood = c.before.before.before in
     let a = stood.before.args in
-    one_above a.bound a.counts.now stood.loop.i c.if1.true
+    one_above a.bound a.counts.now stood.loop-i.i c.if-bound-counts.true
 
-add-i : tie.Need-overflow-add-i invariant-loop decreases-loop
+add-i : tie.Need-overflow_add-i invariant-loop decreases-loop
 add-i c = search rules
 
-loop-less : tie.Need-loop-smaller invariant-loop decreases-loop
+loop-less : tie.Need-loop-i-smaller invariant-loop decreases-loop
 loop-less c = search rules
 
-loop-again : tie.Need-loop-preserved invariant-loop decreases-loop
-loop-again c = (search rules, below_more _ _ c.before.before.before.loop.invariant.1 c.if1.false)
+loop-again : tie.Need-loop-i-preserved invariant-loop decreases-loop
+loop-again c = (search rules, below_more _ _ c.before.before.before.loop-i.invariant.1 c.if-bound-counts.false)
 
-returns-2 : tie.Need-returns-2 invariant-loop decreases-loop
+returns-2 : tie.Need-returns invariant-loop decreases-loop
 returns-2 c = let stood = c.before in
     let a = stood.before.args in
-    none_passed a.bound a.counts.now stood.loop.i c.loop-test.false stood.loop.invariant.1
+    none_passed a.bound a.counts.now stood.loop-i.i c.loop-i-test.false stood.loop-i.invariant.1
 
 pub any_above_spec : {M : Type 1} → statement M
 any_above_spec =

@@ -16,40 +16,40 @@ use Rattle.sums.proofs.judge.book_refusal.Statement.{statement}
 use Rattle.sums.proofs.judge.book_refusal.Tie as tie
 
 -- once 8 is judged
-module _ (c : tie.After-wake) where
+module _ (c : tie.After-wake-refusal) where
   abbrev start : tie.Start
   start = c.before
 
   abbrev book : Book
   book = start.args.book
 
-  told : c.wake.result.refusal ≡ first_of (record_faults book)
-  told = ap (λ (u : Updated). u.refusal) c.wake.ensures ∙ woken book
+  told : c.wake-refusal.result.refusal ≡ first_of (record_faults book)
+  told = ap (λ (u : Updated). u.refusal) c.wake-refusal.ensures ∙ woken book
 
-  module _ (none : c.wake.result.refusal ≡ 0) where
+  module _ (none : c.wake-refusal.result.refusal ≡ 0) where
     passed : first_of (record_faults book) ≡ 0
     passed = sym told ∙ none
 
     bytes_is : start.args.shape.bytes ≡ bytes_of book
-    bytes_is = ap (λ (s : Shape). s.bytes) (shape_of_book book start.pre (mark_known book awake (mark_refusal book awake ∙ passed)))
+    bytes_is = ap (λ (s : Shape). s.bytes) (shape_of_book book start.requires (mark_known book awake (mark_refusal book awake ∙ passed)))
 
-wake-requires : tie.Need-wake-requires
+wake-requires : tie.Need-wake-refusal-requires
 wake-requires c κs = search rules
 
-returns : tie.Need-returns
-returns c = let w = c.before in no_record (book w) (start w).args.ring (told w) c.if1.true
+returns : tie.Need-returns-then-refusal-ne0
+returns c = let w = c.before in no_record (book w) (start w).args.ring (told w) c.if-refusal-ne0.true
 
-returns-2 : tie.Need-returns-2
+returns-2 : tie.Need-returns-then-ring-shape
 returns-2 c =
     let w = c.before.before.before in
-    let none = c.before.before.if1.false in
-    no_room (book w) (start w).args.ring (passed w none) (omega (arith, c.if2.true, bytes_is w none))
+    let none = c.before.before.if-refusal-ne0.false in
+    no_room (book w) (start w).args.ring (passed w none) (omega (arith, c.if-ring-shape.true, bytes_is w none))
 
-returns-3 : tie.Need-returns-3
+returns-3 : tie.Need-returns
 returns-3 c =
     let w = c.before.before.before in
-    let none = c.before.before.if1.false in
-    book_passes (book w) (start w).args.ring (passed w none) (omega (arith, c.if2.false, bytes_is w none))
+    let none = c.before.before.if-refusal-ne0.false in
+    book_passes (book w) (start w).args.ring (passed w none) (omega (arith, c.if-ring-shape.false, bytes_is w none))
 
 pub book_refusal_spec : {M : Type 1} → statement M
 book_refusal_spec = tie.close (tie.spec wake-requires returns returns-2 returns-3)

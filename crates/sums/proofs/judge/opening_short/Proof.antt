@@ -70,21 +70,21 @@ module _ (bound n tolerance ring row : ℕ) where
 entries-requires : tie.Need-entries-requires
 entries-requires c κs = slots_derived c.args.bound c.args.length c.args.tolerance c.requires
 
-returns : tie.Need-returns
+returns : tie.Need-returns-then-entries-row
 returns c =
     let s = c.before.before in
     let a = s.args in
     let enough = ap (λ (q : Shape). entries_for q.slots) s.requires in
-    sym (roomy a.bound a.length a.tolerance a.ring a.row (omega (arith, c.if1.true, c.before.entries.ensures, enough)))
+    sym (roomy a.bound a.length a.tolerance a.ring a.row (omega (arith, c.if-entries-row.true, c.before.entries.ensures, enough)))
 
-returns-2 : tie.Need-returns-2
+returns-2 : tie.Need-returns
 returns-2 c =
     let test = c.before in
     let s = test.before.before in
     let a = s.args in
     let enough = ap (λ (q : Shape). entries_for q.slots) s.requires in
     ap (λ (q : Shape). leb q.bytes a.ring) s.requires
-    ∙ tight a.bound a.length a.tolerance a.ring a.row (omega (arith, test.if1.false, test.before.entries.ensures, enough))
+    ∙ tight a.bound a.length a.tolerance a.ring a.row (omega (arith, test.if-entries-row.false, test.before.entries.ensures, enough))
 
 pub opening_short_spec : {M : Type 1} → statement M
 opening_short_spec = tie.close (tie.spec entries-requires returns returns-2)

@@ -13,7 +13,7 @@ use Rattle.sums.proofs.judge.refuses.Statement.{statement}
 use Rattle.sums.proofs.judge.refuses.Tie as tie
 
 -- once 8 and 4 are judged
-module _ (c : tie.After-book-refusal) where
+module _ (c : tie.After-book_refusal) where
   abbrev start : tie.Start
   start = c.before.before.before.before
 
@@ -26,31 +26,31 @@ module _ (c : tie.After-book-refusal) where
   abbrev counts : List ℕ
   counts = start.args.counts.now
 
-  told : c.book-refusal.result ≡ first_of (book_faults book (length ring))
-  told = c.book-refusal.ensures ∙ ap (λ (n : ℕ). first_of (book_faults book n)) c.before.count.ensures
+  told : c.book_refusal.result ≡ first_of (book_faults book (length ring))
+  told = c.book_refusal.ensures ∙ ap (λ (n : ℕ). first_of (book_faults book n)) c.before.count.ensures
 
 count-requires : tie.Need-count-requires
 count-requires c κs = search rules
 
-book-refusal-requires : tie.Need-book-refusal-requires
+book-refusal-requires : tie.Need-book_refusal-requires
 book-refusal-requires c κs = search rules
 
-returns : tie.Need-returns
+returns : tie.Need-returns-then-book_refusal-ne0
 returns c = let p = c.before in
-    refused_book (book p) (ring p) (counts p) (λ e. c.if1.true (told p ∙ e))
+    refused_book (book p) (ring p) (counts p) (λ e. c.if-book_refusal-ne0.true (told p ∙ e))
 
-returns-2 : tie.Need-returns-2
+returns-2 : tie.Need-returns-then-book-ne0
 returns-2 c = let p = c.before.before.before in
-    refused_mark (book p) (ring p) (counts p) c.if2.true
+    refused_mark (book p) (ring p) (counts p) c.if-book-ne0.true
 
-any-above-requires : tie.Need-any-above-requires
+any-above-requires : tie.Need-any_above-requires
 any-above-requires c κs = search rules
 
-returns-3 : tie.Need-returns-3
+returns-3 : tie.Need-returns
 returns-3 c = let last = c.before in
     let p = last.before.before.before in
-    c.any-above.ensures
-    ∙ counts_decide (book p) (ring p) (counts p) (sym (told p) ∙ last.before.before.if1.false) last.if2.false
+    c.any_above.ensures
+    ∙ counts_decide (book p) (ring p) (counts p) (sym (told p) ∙ last.before.before.if-book_refusal-ne0.false) last.if-book-ne0.false
 
 pub refuses_spec : {M : Type 1} → statement M
 refuses_spec =

@@ -58,22 +58,22 @@ module _ (book : Book) (ring row : ℕ) where
 entries-requires : tie.Need-entries-requires
 entries-requires c κs = let b = c.args.book in slots_derived b.bound b.length b.tolerance c.requires
 
-returns : tie.Need-returns
+returns : tie.Need-returns-then-entries-row
 returns c =
     let s = c.before.before in
     let enough = ap (λ (q : Shape). entries_for q.slots) s.requires in
-    sym (roomy s.args.book s.args.ring s.args.row (omega (arith, c.if1.true, c.before.entries.ensures, enough)))
+    sym (roomy s.args.book s.args.ring s.args.row (omega (arith, c.if-entries-row.true, c.before.entries.ensures, enough)))
 
-book-refusal-requires : tie.Need-book-refusal-requires
+book-refusal-requires : tie.Need-book_refusal-requires
 book-refusal-requires c κs = search rules
 
-returns-2 : tie.Need-returns-2
+returns-2 : tie.Need-returns
 returns-2 c =
     let test = c.before in
     let s = test.before.before in
     let enough = ap (λ (q : Shape). entries_for q.slots) s.requires in
-    decided s.args.book s.args.ring s.args.row c.book-refusal.ensures
-    (tight s.args.book s.args.ring s.args.row (omega (arith, test.if1.false, test.before.entries.ensures, enough)))
+    decided s.args.book s.args.ring s.args.row c.book_refusal.ensures
+    (tight s.args.book s.args.ring s.args.row (omega (arith, test.if-entries-row.false, test.before.entries.ensures, enough)))
 
 pub row_short_spec : {M : Type 1} → statement M
 row_short_spec = tie.close (tie.spec entries-requires returns book-refusal-requires returns-2)

@@ -11,19 +11,19 @@ use Rattle.sums.proofs.FieldsInRange.{ring_sums}
 use Rattle.sums.proofs.row.fields.Statement.{statement}
 use Rattle.sums.proofs.row.fields.Tie as tie
 
-returns : tie.Need-returns
+returns : tie.Need-returns-then-to-from
 returns c =
     let s = c.before.before in
     let none : s.args.to - s.args.from ≡ 0 = omega arith in
     rw none (sym (from_none (field s.args.shape.width s.args.ring.now) s.args.from))
 
-sub-sum : tie.Need-overflow-sub-sum
+sub-sum : tie.Need-overflow_sub-to
 sub-sum c = search rules
 
 sum-requires : tie.Need-sum-requires
 sum-requires c κs = search rules
 
-returns-2 : tie.Need-returns-2
+returns-2 : tie.Need-returns
 returns-2 c =
     let s = c.before.before.before in
     let a = s.args in

@@ -6,17 +6,17 @@ use Rattle.sums.specs.Row.{group_end}
 use Rattle.sums.proofs.row.group_end.Statement.{statement}
 use Rattle.sums.proofs.row.group_end.Tie as tie
 
-add-end : tie.Need-overflow-add-end
+add-end : tie.Need-overflow_add-end
 add-end c = search rules
 
-mul-end : tie.Need-overflow-mul-end
+mul-end : tie.Need-overflow_mul-end
 mul-end c = search rules
 
-returns : tie.Need-returns
+returns : tie.Need-returns-then-end-slots
 unfolding group_end
 returns c = omega arith
 
-returns-2 : tie.Need-returns-2
+returns-2 : tie.Need-returns-else-end-slots
 unfolding group_end
 returns-2 c = omega arith
 

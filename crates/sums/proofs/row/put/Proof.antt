@@ -16,43 +16,43 @@ use Rattle.sums.proofs.row.put.Tie as tie
 -- once the fields behind `from` are summed
 module _ (c : tie.After-fields) where
   abbrev start : tie.Start
-  start = c.before.before.before.before.before
+  start = c.before.before.before.before
 
   sum_is : c.before.stored_at.result + c.fields.result
       ≡ sum_to (field start.args.shape.width start.args.ring.now) start.args.end
   sum_is =
       let a = start.args in
-      let whole = between (field a.shape.width a.ring.now) a.from a.end start.pre.4 in
-      omega (arith, c.before.stored_at.ensures.0, c.fields.ensures, start.pre.5, whole)
+      let whole = between (field a.shape.width a.ring.now) a.from a.end start.requires.4 in
+      omega (arith, c.before.stored_at.ensures.0, c.fields.ensures, start.requires.5, whole)
 
   sum_fits : c.before.stored_at.result + c.fields.result < 4294967296
   sum_fits =
       let a = start.args in
-      let top = sum_small a.shape.width a.shape.slots a.ring.now start.pre.0 0 a.end in
-      omega (arith, sum_is, top, start.pre.2, start.pre.0.slots_high)
+      let top = sum_small a.shape.width a.shape.slots a.ring.now start.requires.0 0 a.end in
+      omega (arith, sum_is, top, start.requires.2, start.requires.0.slots_high)
 
-stored-at-requires : tie.Need-stored-at-requires
+stored-at-requires : tie.Need-stored_at-requires
 stored-at-requires c κs = search rules
 
 fields-requires : tie.Need-fields-requires
 fields-requires c κs = search rules
 
-add-sum : tie.Need-overflow-add-sum
+add-sum : tie.Need-overflow_add-sum
 add-sum c = record { fits = omega (arith, sum_fits c) }
 
-cast-row : tie.Need-overflow-cast-row
+cast-row : tie.Need-overflow_cast-row
 cast-row c = record { fits = sum_fits c }
 
 entry-requires : tie.Need-entry-requires
 entry-requires c κs = search rules
 
-mul-row : tie.Need-overflow-mul-row
+mul-row : tie.Need-offset_bounds-row-entry
 mul-row c = search rules
 
-slice-write-row : tie.Need-slice-write-row
+slice-write-row : tie.Need-bounds-row-entry
 slice-write-row c = search rules
 
-same_length : tie.Need-same-length
+same_length : tie.Need-shape_of-row
 same_length c = search rules
 
 returns : tie.Need-returns

@@ -9,35 +9,35 @@ use Rattle.sums.specs.Rule.{stored_at}
 use Rattle.sums.proofs.row.store.Statement.{statement}
 use Rattle.sums.proofs.row.store.Tie as tie
 
-add-if1 : tie.Need-overflow-add-if1
+add-if1 : tie.Need-overflow_add-slot
 add-if1 c = search rules
 
-group-end-requires : tie.Need-group-end-requires
+group-end-requires : tie.Need-group_end-requires
 group-end-requires c κs = search rules
 
-add-put : tie.Need-overflow-add-put
+add-put : tie.Need-overflow_add-slot-then-slot-group_end
 add-put c = search rules
 
 put-requires : tie.Need-put-requires
 unfolding sum_from stored_at
 put-requires c κs = search rules
 
-same_length : tie.Need-same-length
+same_length : tie.Need-shape_of-row
 same_length c = search rules
 
-returns : tie.Need-returns
+returns : tie.Need-returns-then-slot-group_end
 unfolding stored
 returns c =
     let p = c.before.before in
     let test = p.before.before in
     let a = test.before.before.before.before.args in
-    rw (eq-eqb (a.slot + 1) (group_end a.shape.slots a.slot) (test.if1.true ∙ test.before.group_end_lem.ensures)) p.put.ensures
+    rw (eq-eqb (a.slot + 1) (group_end a.shape.slots a.slot) (test.if-slot-group_end.true ∙ test.before.group_end.ensures)) p.put.ensures
 
-returns-2 : tie.Need-returns-2
+returns-2 : tie.Need-returns-else-slot-group_end
 unfolding stored
 returns-2 c =
     let a = c.before.before.before.before.args in
-    rw (ne_eqb (a.slot + 1) (group_end a.shape.slots a.slot) (λ e. c.if1.false (e ∙ sym c.before.group_end_lem.ensures))) refl
+    rw (ne_eqb (a.slot + 1) (group_end a.shape.slots a.slot) (λ e. c.if-slot-group_end.false (e ∙ sym c.before.group_end.ensures))) refl
 
 pub store_spec : {M : Type 1} → statement M
 store_spec =

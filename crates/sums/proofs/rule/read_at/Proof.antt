@@ -11,11 +11,11 @@ one : (end : ℕ) → (end ≡ 0 → ⊥) → 1 ≡ read_at end
 one zero ne = absurd (ne refl)
 one (suc end) ne = refl
 
-returns : tie.Need-returns
+returns : tie.Need-returns-then-end-eq0
 returns c = search rules
 
-returns-2 : tie.Need-returns-2
-returns-2 c = one c.before.args.end c.if1.false
+returns-2 : tie.Need-returns-else-end-eq0
+returns-2 c = one c.before.args.end c.if-end-eq0.false
 
 pub read_at_spec : {M : Type 1} → statement M
 read_at_spec = tie.close (tie.spec returns returns-2)

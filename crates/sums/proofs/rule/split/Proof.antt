@@ -7,30 +7,30 @@ use Rattle.sums.specs.Rule.{end_after, end_before, parts_of}
 use Rattle.sums.proofs.rule.split.Statement.{statement}
 use Rattle.sums.proofs.rule.split.Tie as tie
 
-end-after-requires : tie.Need-end-after-requires
+end-after-requires : tie.Need-end_after-first-requires
 end-after-requires c κs = search rules
 
-end-before-requires : tie.Need-end-before-requires
+end-before-requires : tie.Need-end_before-last-requires
 end-before-requires c κs = search rules
 
-returns : tie.Need-returns
+returns : tie.Need-returns-then-first-last
 unfolding parts_of
 returns c =
     let b = c.before in
     let a = b.before.before.args in
     rw (
-      b.end_before_lem.ensures,
-      b.before.end_after_lem.ensures,
-      lt-ltb (end_after a.slots a.from) (end_before a.slots a.to) (rw (b.end_before_lem.ensures, b.before.end_after_lem.ensures) at c.if1.true),
+      b.end_before-last.ensures,
+      b.before.end_after-first.ensures,
+      lt-ltb (end_after a.slots a.from) (end_before a.slots a.to) (rw (b.end_before-last.ensures, b.before.end_after-first.ensures) at c.if-first-last.true),
     )
     refl
 
-returns-2 : tie.Need-returns-2
+returns-2 : tie.Need-returns
 unfolding parts_of
 returns-2 c =
     let b = c.before in
     let a = b.before.before.args in
-    rw (le-ltb (end_after a.slots a.from) (end_before a.slots a.to) (rw (b.end_before_lem.ensures, b.before.end_after_lem.ensures) at c.if1.false))
+    rw (le-ltb (end_after a.slots a.from) (end_before a.slots a.to) (rw (b.end_before-last.ensures, b.before.end_after-first.ensures) at c.if-first-last.false))
     refl
 
 pub split_spec : {M : Type 1} → statement M

@@ -3,54 +3,52 @@
 use borrow.Author.Rules.{rules}
 use native.Mathlib.Omega.{arith}
 use Prim.Native.Nat.{ℕ}
-use mathlib.Core.List.{List}
-use mathlib.Core.Logic.{⊎_elim}
 use mathlib.Core.Path.{sym, ap, subst, ◌∙◌}
-use lib.ListN.{length}
 use Rattle.ring.specs.Lent.{Lent}
 use Rattle.book.specs.declared.Ran.{Ran}
 use Rattle.sums.proofs.ShapeInUse.{use_slots, use_lent}
 use Rattle.sums.proofs.RunTurns.{end_ahead, end_within, run_adds, part_stores, part_leaves, part_front}
 use Rattle.sums.proofs.running.add_part.Statement.{statement}
+use Rattle.sums.proofs.running.add_part.Lts.{then-count-items_left, else-count-items_left}
 use Rattle.sums.proofs.running.add_part.Tie as tie
 
-abbrev start : tie.After-run → tie.Start
+abbrev start : tie.After-run-ran → tie.Start
 start c = c.before.before.before.before.before
 
-run-requires : tie.Need-run-requires
+run-requires : tie.Need-run-ran-requires
 run-requires c κs = search rules
 
 count-requires : tie.Need-count-requires
 count-requires c κs = search rules
 
-items-left-requires : tie.Need-items-left-requires
+items-left-requires : tie.Need-items_left-requires
 items-left-requires c κs = search rules
 
-group-end-requires : tie.Need-group-end-requires
-group-end-requires c κs = let s = start c.before.before.before.before.before.before.before in
-    let slots = use_slots s.pre.0.shape_is s.pre.0.usable.sound in
+group-end-requires : tie.Need-group_end-requires
+group-end-requires c κs = let s = start c.before.before.before.before.before.before in
+    let slots = use_slots s.requires.0.shape_is s.requires.0.usable.sound in
     omega arith
 
 put-requires : tie.Need-put-requires
 put-requires c κs =
-    let ran = c.before.before.before.before.before.before.before.before in
+    let ran = c.before.before.before.before.before.before.before in
     let s = start ran in
-    let t = s.pre.0 in
-    let ahead = end_ahead t.usable.sound t.shape_is c.group_end_lem.ensures in (
-      subst (λ (n : ℕ). Lent s.args.shape.width s.args.shape.slots n) (sym ran.run.auto.1.0) (use_lent t.shape_is t.usable),
+    let t = s.requires.0 in
+    let ahead = end_ahead t.usable.sound t.shape_is c.group_end.ensures in (
+      subst (λ (n : ℕ). Lent s.args.shape.width s.args.shape.slots n) (sym ran.run-ran.auto.ring) (use_lent t.shape_is t.usable),
       omega (arith, ahead),
-      end_within t.usable.sound t.shape_is c.group_end_lem.ensures,
+      end_within t.usable.sound t.shape_is c.group_end.ensures,
       omega (arith, t.room, (use_slots t.shape_is t.usable.sound).0),
-      omega (arith, ahead, s.pre.2),
-      part_front s.args.ring.now s.args.row.now t s.pre.1 s.pre.2 (ran.run.ensures.1 ∙ (run_adds s.args.ring.now t).1)
-          s.pre.3,
+      omega (arith, ahead, s.requires.2),
+      part_front s.args.ring.now s.args.row.now t s.requires.1 s.requires.2 (ran.run-ran.ensures.1 ∙ (run_adds s.args.ring.now t).1)
+          s.requires.3,
     )
 
-same_length : tie.Need-same-length
+same_length : tie.Need-shape_of-ring
 same_length c = search rules
 
-same-length-2 : tie.Need-same-length-2
-same-length-2 c = ⊎_elim (λ w. ap (λ (l : List ℕ). length l) w.7 ∙ w.4.kept.1.1.0) (λ w. ap (λ (l : List ℕ). length l) w.1) c.before.if1.branch
+same-length-2 : tie.Need-shape_of-row
+same-length-2 c = c.before.if-count-items_left.long-row
 
 returns : tie.Need-returns
 returns c =
@@ -58,18 +56,18 @@ returns c =
     let counted = left.before in
     let ran = counted.before.before.before in
     let s = start ran in
-    let t = s.pre.0 in
+    let t = s.requires.0 in
     let ring = s.args.ring.now in
     let row = s.args.row.now in
     let adds = run_adds ring t in
-    let ring_is = ran.run.ensures.1 ∙ adds.1 in (
-      ap (λ (r : Ran). r.book) ran.run.ensures.0 ∙ adds.0,
+    let ring_is = ran.run-ran.ensures.1 ∙ adds.1 in (
+      ap (λ (r : Ran). r.book) ran.run-ran.ensures.0 ∙ adds.0,
       ring_is,
-      ⊎_elim
-          (λ w. w.7 ∙ w.4.ensures
-          ∙ part_stores ring row t s.pre.1 (sym counted.count.ensures ∙ w.0.taken ∙ left.items_left.ensures) w.3.ensures ring_is)
-          (λ w. w.1 ∙ part_leaves ring row t s.pre.1 (λ e. w.0.left (counted.count.ensures ∙ e ∙ sym left.items_left.ensures)))
-          c.before.if1.branch,
+      elim c.before.if-count-items_left.branch [
+        | then-count-items_left w ↦ w.row-is ∙ w.put.ensures
+            ∙ part_stores ring row t s.requires.1 (sym counted.count.ensures ∙ w.if-count-items_left.true ∙ left.items_left.ensures) w.group_end.ensures ring_is
+        | else-count-items_left w ↦ w.row-is ∙ part_leaves ring row t s.requires.1 (λ e. w.if-count-items_left.false (counted.count.ensures ∙ e ∙ sym left.items_left.ensures))
+      ],
     )
 
 pub add_part_spec : {M : Type 1} → statement M

@@ -13,30 +13,30 @@ use Rattle.sums.proofs.totals.slots_for.Tie as tie
 
 module _ (s : tie.Start) where
   block : (s.args.shape.block ≡ block_of s.args.book) × (1 ≤ s.args.shape.block) × (s.args.shape.block ≤ 4096)
-  block = use_block s.pre.1 s.pre.0
+  block = use_block s.requires.1 s.requires.0
 
   up_top : s.args.window - s.args.book.phase + (s.args.shape.block - 1) ≤ 8192
-  up_top = omega (arith, block, s.pre.3, s.pre.0.kept_high, s.pre.0.ranges.length_high)
+  up_top = omega (arith, block, s.requires.3, s.requires.0.kept_high, s.requires.0.ranges.length_high)
 
-sub-up : tie.Need-sub-up
+sub-up : tie.Need-overflow_sub-up
 sub-up c = search rules
 
-sub-up-2 : tie.Need-sub-up-2
+sub-up-2 : tie.Need-overflow_sub-up-2
 sub-up-2 c = (block c.before.before).1
 
-add-up : tie.Need-add-up
+add-up : tie.Need-overflow_add-up
 add-up c = omega (arith, up_top c.before.before)
 
-cast-result : tie.Need-cast-result
+cast-result : tie.Need-overflow_cast-result
 cast-result c = omega (arith, up_top c.before.before)
 
-cast-result-2 : tie.Need-cast-result-2
+cast-result-2 : tie.Need-overflow_cast-result-2
 cast-result-2 c = omega (arith, block c.before.before.before)
 
-div-result : tie.Need-div-result
+div-result : tie.Need-nonzero_div-result
 div-result c = omega (arith, block c.before.before.before)
 
-cast-result-3 : tie.Need-cast-result-3
+cast-result-3 : tie.Need-overflow_cast-result-3
 cast-result-3 c =
     let s = c.before.before.before in
     let a = s.args in
