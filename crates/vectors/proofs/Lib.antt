@@ -1,2 +1,3 @@
 pub mod PartOfAnArray
+pub mod Zeros
 pub mod ZonesInAnArray

@@ -1,9 +1,9 @@
--- The first k elements of a local array are lent as a `&mut` slice and come back, for any type of element. The cells of a list are cut at a place
--- and joined again; what is not lent stays as it was.
+-- For walks by hand: the first k elements of a local array are lent as a `&mut` slice and come back, for any type of element. The cells of a list
+-- are cut at a place and joined again; what is not lent stays as it was. The crate's own proofs need none of it.
 -- Assumes nothing.
 use Rattle.std.proofs.Common.{◌≡◌, ℕ, ◌+◌, ◌-◌, ◌≤◌, List, [], ◌∷◌, ◌++◌, length, take, drop as skip, sym, refl, ap, ◌∙◌, subst, arith, length-append, length-drop, take-append-drop, length-take-le, MutBor}
 use seplogic.Ra.Ura.{Ura}
-use seplogic.Ra.TreeShare.{full_share}
+use base.Fraction.{full_share}
 use mir.Syntax.{Lifetime, Ty, ty_array}
 use mir.Raw.{raw as raw_ty}
 use mir.Val.{Val}

@@ -1,8 +1,7 @@
--- What the two calls of `lent_zones` share: the machine values of an array of records and of what is done, the loan of the first records of such
--- an array, and what a call of the crate zones leaves behind.
+-- What walks by hand of the two calls of `lent_zones` share: the machine values of an array of records and of what is done, the loan of the first
+-- records of such an array, and what a call of the crate zones leaves behind. The crate's own proofs need none of it.
 -- Assumes nothing.
-use Rattle.std.proofs.Common.{◌≡◌, ℕ, ◌*◌, ◌^◌, ◌<◌, ◌≤◌, T, List, [], ◌∷◌, ◌++◌, map, length, drop as skip, refl, ◌∙◌, subst, arith, w8, w64}
-use lib.ListN.{length-map}
+use Rattle.std.proofs.Common.{◌≡◌, ℕ, ◌*◌, ◌^◌, ◌<◌, ◌≤◌, T, List, [], ◌∷◌, ◌++◌, map, length, drop as skip, refl, subst, arith, w8, w64}
 use seplogic.Ra.Ura.{Ura}
 use mir.Syntax.{Ty, named, ty_array}
 use mir.Val.{Val, vint, vstruct, vnil, vcons, WT, has_ty}
@@ -83,7 +82,7 @@ is_done r zs v told is = (
       (LL.owed Z.the_type Z'.the_laws r _ told).0,
       (
         (LL.owed Z.the_type Z'.the_laws r _ told).1.0,
-        ((is.0, ((is.1.0.0, length-map zs (field B.the_type).into ∙ is.1.0.1), as_fields zs is.0 is.1.1)), tt),
+        (is, tt),
       ),
     ),
   ),

@@ -1,5 +1,5 @@
 // The calls that make a book coarser. Each gives how many bytes its answer has, 0 if the line cannot be read.
-ghost use Rattle.io.specs.Counts.{IsPrefixLen};
+ghost use Rattle.vectors.specs.Counts.{IsPrefixLen};
 
 use crate::fields::calls;
 use crate::reading::{bytes_in, number_in, record_in, sums_in};

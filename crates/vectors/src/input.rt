@@ -1,10 +1,11 @@
 // Standard input, line by line.
-ghost use Rattle.std.specs.Prelude.{◌≤◌, length};
+ghost use Rattle.std.specs.Prelude.{◌+◌, ◌≤◌, length};
 
 use crate::fields::place;
 use crate::{
     books, coarser, images, lit_frames, pages, rings, row_books, salvages, text, trends, zone_books,
 };
+use std::io::{Read, Write};
 
 // How many bytes of a line stand at the buffer's start, whether more of that line was dropped, and whether input may follow.
 #[derive(Drop)]
@@ -64,9 +65,14 @@ fn known(line: &[u8], first: &mut [u8], second: &mut [u8], out: &mut [u8]) -> us
     of_images(line, first, second, out)
 }
 
-fn send(out: &[u8], count: usize) {
+// Writes a text. Where it cannot be written nothing is said of it, and what follows is tried as ever.
+fn put<W: Write>(output: &mut W, text: &[u8]) {
+    let _ = output.write_all(text);
+}
+
+fn send<W: Write>(output: &mut W, out: &[u8], count: usize) {
     if count <= out.len() {
-        io::write_all(1, &out[..count]);
+        put(output, &out[..count]);
     }
 }
 
@@ -79,27 +85,35 @@ fn is_name(line: &[u8]) -> bool {
 }
 
 // Answers one line; a name is written back as it is. A line of which a part was dropped cannot be read.
-fn answer(line: &[u8], dropped: bool, first: &mut [u8], second: &mut [u8], out: &mut [u8]) {
+fn answer<W: Write>(
+    output: &mut W,
+    line: &[u8],
+    dropped: bool,
+    first: &mut [u8],
+    second: &mut [u8],
+    out: &mut [u8],
+) {
     if dropped {
-        io::write_all(1, b"?\n");
+        put(output, b"?\n");
         return;
     }
     if is_name(line) {
-        io::write_all(1, line);
-        io::write_all(1, b"\n");
+        put(output, line);
+        put(output, b"\n");
         return;
     }
     let n = known(line, first, second, out);
     if n == 0 {
-        io::write_all(1, b"?\n");
+        put(output, b"?\n");
         return;
     }
     let end = text::byte(out, n, b'\n');
-    send(out, end);
+    send(output, out, end);
 }
 
 // Answers each whole line, and gives the place behind the last of them.
-fn answer_all(
+fn answer_all<W: Write>(
+    output: &mut W,
     lines: &[u8],
     dropped: bool,
     first: &mut [u8],
@@ -111,7 +125,14 @@ fn answer_all(
     let mut at = 0;
     let mut end = place(lines, 0, b'\n');
     while end < lines.len() {
-        answer(&lines[at..end], dropped && at == 0, first, second, out);
+        answer(
+            output,
+            &lines[at..end],
+            dropped && at == 0,
+            first,
+            second,
+            out,
+        );
         at = end + 1;
         end = place(lines, at, b'\n');
     }
@@ -153,9 +174,16 @@ fn left(buf: &mut [u8], answered: usize, end: usize, dropped: bool) -> State
 }
 
 // The input is at its end: what is left is a line, though no line feed ended it.
-fn last(line: &[u8], dropped: bool, first: &mut [u8], second: &mut [u8], out: &mut [u8]) -> State {
+fn last<W: Write>(
+    output: &mut W,
+    line: &[u8],
+    dropped: bool,
+    first: &mut [u8],
+    second: &mut [u8],
+    out: &mut [u8],
+) -> State {
     if dropped || line.len() != 0 {
-        answer(line, dropped, first, second, out);
+        answer(output, line, dropped, first, second, out);
     }
     State {
         have: 0,
@@ -164,8 +192,21 @@ fn last(line: &[u8], dropped: bool, first: &mut [u8], second: &mut [u8], out: &m
     }
 }
 
-// Reads once and answers the lines that are whole. An error of reading counts as the end of input.
-fn turn(
+// Reads what is there behind `have`, and gives how many bytes that are: 0 at the end of the input. A read that fails ends the input too.
+fn fill<R: Read>(input: &mut R, buf: &mut [u8], have: usize) -> usize
+    requires { have ≤ length buf.old }
+    ensures { have + result ≤ length buf.old }
+{
+    match input.read(&mut buf[have..]) {
+        Ok(n) => n,
+        Err(_) => 0,
+    }
+}
+
+// Reads once and answers the lines that are whole.
+fn turn<R: Read, W: Write>(
+    input: &mut R,
+    output: &mut W,
     buf: &mut [u8],
     first: &mut [u8],
     second: &mut [u8],
@@ -180,18 +221,24 @@ fn turn(
             more: false,
         };
     }
-    let got = libc::read(0, &mut buf[have..]);
-    let n = io::count(got, &buf[have..]);
+    let n = fill(input, buf, have);
     if n == 0 {
-        return last(&buf[..have], state.dropped, first, second, out);
+        return last(output, &buf[..have], state.dropped, first, second, out);
     }
     let end = have + n;
-    let answered = answer_all(&buf[..end], state.dropped, first, second, out);
+    let answered = answer_all(output, &buf[..end], state.dropped, first, second, out);
     left(buf, answered, end, state.dropped)
 }
 
 // The turns are counted down, since a proved loop ends and nothing says that an input does; no run uses them up.
-pub(crate) fn run(buf: &mut [u8], first: &mut [u8], second: &mut [u8], out: &mut [u8]) {
+pub(crate) fn run<R: Read, W: Write>(
+    input: &mut R,
+    output: &mut W,
+    buf: &mut [u8],
+    first: &mut [u8],
+    second: &mut [u8],
+    out: &mut [u8],
+) {
     let mut state = State {
         have: 0,
         dropped: false,
@@ -199,7 +246,7 @@ pub(crate) fn run(buf: &mut [u8], first: &mut [u8], second: &mut [u8], out: &mut
     };
     let mut turns = u64::MAX;
     while turns > 0 && state.more {
-        state = turn(buf, first, second, out, state);
+        state = turn(input, output, buf, first, second, out, state);
         turns -= 1;
     }
 }

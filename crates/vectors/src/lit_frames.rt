@@ -1,5 +1,5 @@
 // The calls on lit frames. Each gives how many bytes its answer has, 0 if the line cannot be read.
-ghost use Rattle.io.specs.Counts.{IsPrefixLen};
+ghost use Rattle.vectors.specs.Counts.{IsPrefixLen};
 
 use crate::fields::calls;
 use crate::reading::{byte_in, bytes_in, native, number_in, number_or_0};

@@ -19,7 +19,7 @@ mod text;
 mod trends;
 mod zone_books;
 
-fn main() {
+fn main(rt: HostRuntime) {
     // The longest line to be read: a record, a ring of 32,768 bytes, a row of 16,384 numbers of 10 digits and as many counts of 20 digits,
     // 590,000 characters. One with three fields of 32,768 bytes has less than 200,000. A line that fills the buffer cannot be read.
     let mut buf = [0u8; 600000];
@@ -28,5 +28,12 @@ fn main() {
     // The longest answer: a refusal, a count, a record of eight numbers, 32,768 bytes as hex, two rows of 16,384 numbers of 10 digits, and the
     // line's end, less than 427,000 characters.
     let mut out = [0u8; 524288];
-    input::run(&mut buf, &mut first, &mut second, &mut out);
+    input::run(
+        &mut rt.stdin(),
+        &mut rt.stdout(),
+        &mut buf,
+        &mut first,
+        &mut second,
+        &mut out,
+    );
 }

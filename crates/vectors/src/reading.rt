@@ -1,6 +1,6 @@
 // Numbers, records, bytes and rows from their text.
 ghost use Rattle.std.specs.Prelude.{◌≡◌, ◌*◌, ◌≤◌, length};
-ghost use Rattle.io.specs.Counts.{IsPrefixLen};
+ghost use Rattle.vectors.specs.Counts.{IsPrefixLen};
 
 use crate::fields::{count, field, part, place};
 use book::Book;

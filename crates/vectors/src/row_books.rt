@@ -1,5 +1,5 @@
 // The calls of a book with a row of sums. Each gives how many bytes its answer has, 0 if the line cannot be read.
-ghost use Rattle.io.specs.Counts.{IsPrefixLen};
+ghost use Rattle.vectors.specs.Counts.{IsPrefixLen};
 
 use crate::books::{Setting, placed, setting_in, updated};
 use crate::fields::calls;

@@ -46,11 +46,13 @@ pub(crate) fn word(out: &mut [u8], at: usize, word: &[u8]) -> usize {
     each(out, at, word, false)
 }
 
-// A number.
+// A number: the digits of its tenth, and then its last one.
 pub(crate) fn decimal(out: &mut [u8], at: usize, n: u64) -> usize {
-    let mut digits = [0u8; 20];
-    let count = io::decimal(n, &mut digits);
-    word(out, at, &digits[..count])
+    if n < 10 {
+        return byte(out, at, digit(n as u8));
+    }
+    let behind = decimal(out, at, n / 10);
+    byte(out, behind, digit((n % 10) as u8))
 }
 
 // A number behind a space.
