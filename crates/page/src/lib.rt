@@ -12,7 +12,7 @@ use book::Book;
 
 mod picking;
 
-#[derive(Drop)]
+#[derive(Clone, Copy)]
 pub enum Picture {
     Neither,
     Newest,
@@ -21,7 +21,7 @@ pub enum Picture {
 
 // A refusal number, 0 for none; which picture is shown; where its raster lies in its own slice; and its age in ticks. With a refusal it is neither
 // picture, and all other numbers are 0.
-#[derive(Drop)]
+#[derive(Clone, Copy)]
 pub struct Choice {
     pub refusal: u8,
     pub picture: Picture,
@@ -32,7 +32,7 @@ pub struct Choice {
 
 // The ticks at which the two pictures were taken, and the tick now. (By their names, since three numbers of one type are easily mixed up.)
 #[repr(C)]
-#[derive(Drop)]
+#[derive(Clone, Copy)]
 pub struct Ticks {
     pub newest: u32,
     pub older: u32,

@@ -13,7 +13,7 @@ use book::Book;
 use book::verdicts::{Ruling, Verdict};
 use image::Numbers;
 
-#[derive(Drop)]
+#[derive(Clone, Copy)]
 pub(crate) struct Picked {
     pub refusal: u8,
     pub picture: Picture,

@@ -10,7 +10,7 @@ use borrow.Author.Tests.{lt-ltb, le-ltb, ltb-false}
 use lib.Dec.{T, ltb}
 use lib.ListN.{length}
 use Rattle.refusals.specs.Numbers.{row_too_short}
-use Rattle.refusals.specs.First.{Fault, ◌gives◌, first_of}
+use Rattle.refusals.specs.First.{Fault, first_of}
 use Rattle.refusals.specs.Call.{Call, refusal_of, result_of, left_of}
 use Rattle.refusals.proofs.Laws.{first_append, avoids}
 use Rattle.refusals.specs.Demand1.{Tells}

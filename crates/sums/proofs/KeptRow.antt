@@ -15,7 +15,7 @@ use Rattle.ring.specs.Newest.{sum_newest}
 use Rattle.book.specs.Adding.{slot_after}
 use Rattle.book.proofs.Promises.{le_or_lt, slot_after_cases}
 use Rattle.sums.specs.Row.{entries_for, sum_to, entry_at, group_end, ends_group, stored}
-use Rattle.sums.specs.Rule.{end_after, end_before, parts_of, stored_at, added_by, taken_by, far, sum_by_row}
+use Rattle.sums.specs.Rule.{end_after, end_before, parts_of, stored_at, added_by, taken_by, sum_by_row}
 use Rattle.sums.specs.RowKept.{End, reached, Kept}
 use Rattle.sums.proofs.SumsOfFields.{from_none, to_more, between, to_same, to_changed, newest_by_runs}
 use Rattle.sums.proofs.Ends.{group_end_lem, ends_apart, entry_used, end_after_lem, end_before_lem}

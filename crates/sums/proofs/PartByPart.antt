@@ -18,7 +18,7 @@ use Rattle.book.specs.Sound.{Sound, Usable}
 use Rattle.book.specs.Adding.{quotient_of, added_open, added_closed, added, added_ring}
 use Rattle.book.specs.RunOfCounts.{any_above, added_all, added_all_ring}
 use Rattle.book.proofs.Promises.{adding_cases, added_same, added_mark, added_usable, slot_after_cases, quotient_in, book_lent, all_none, all_more, above_cons}
-use Rattle.sums.specs.Row.{group, group_end, entry_at, sum_to, stored, added_row, added_all_row}
+use Rattle.sums.specs.Row.{group_end, entry_at, sum_to, stored, added_row, added_all_row}
 use Rattle.sums.specs.RunParts.{items_left}
 use Rattle.sums.proofs.Ends.{group_end_lem}
 

@@ -1,7 +1,7 @@
 -- WHAT STAYS OF A ROW (promises C-16.2, C-16.3): storing changes one entry at the most; no call changes the row's length or an entry that is not
 -- used, whatever it is called with.
 -- Assumes nothing.
-use Prim.Native.Nat.{ℕ, zero, suc, ◌+◌, ◌-◌, ◌≤◌, ◌<◌}
+use Prim.Native.Nat.{ℕ, zero, suc, ◌+◌, ◌≤◌, ◌<◌}
 use native.Mathlib.Omega.{arith}
 use mathlib.Core.Bool.{Bool, true, false, cond}
 use mathlib.Core.List.{List, [], ◌∷◌}

@@ -20,7 +20,7 @@ mod of_zones;
 // What the page is told, as numbers: the refusal, 0 for none; the verdict, 1 live, 2 frozen, 3 undecided, 4 resting; the window; the figure.
 // At a refusal all but the refusal are 0.
 #[repr(C)]
-#[derive(Drop)]
+#[derive(Clone, Copy)]
 pub struct Ruled {
     pub refusal: u8,
     pub verdict: u8,
@@ -30,7 +30,7 @@ pub struct Ruled {
 
 // Where a raster lies in the lent bytes. At a refusal the part is empty.
 #[repr(C)]
-#[derive(Drop)]
+#[derive(Clone, Copy)]
 pub struct Raster {
     pub refusal: u8,
     pub offset: usize,
@@ -40,7 +40,7 @@ pub struct Raster {
 // Which picture the page shows, as numbers: the refusal, 0 for none; the picture, 1 the newest, 2 the older one; where its raster lies in its own
 // bytes; its age in ticks. At a refusal all but the refusal are 0.
 #[repr(C)]
-#[derive(Drop)]
+#[derive(Clone, Copy)]
 pub struct Shown {
     pub refusal: u8,
     pub picture: u8,

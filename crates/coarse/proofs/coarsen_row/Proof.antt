@@ -15,7 +15,7 @@ use Rattle.coarse.proofs.coarsen_row.Statement.{statement}
 use Rattle.coarse.proofs.coarsen_row.Tie as tie
 
 -- once all is asked
-module _ (c : tie.After-coarser) where
+module _ (c : tie.After-coarser-judged) where
   abbrev start : tie.Start
   start = c.before.before.before.before.before.before
 
@@ -34,20 +34,20 @@ module _ (c : tie.After-coarser) where
   abbrev row : List ℕ
   row = start.args.row.now
 
-  asked : c.coarser.result.refusal ≡ refusal_of (coarsen_row_call book ring times second row)
-  asked = asked_first book ring times second row c.coarser.ensures c.before.before.count.ensures c.before.count2.ensures
+  asked : c.coarser-judged.result.refusal ≡ refusal_of (coarsen_row_call book ring times second row)
+  asked = asked_first book ring times second row c.coarser-judged.ensures c.before.before.count.ensures c.before.count-2.ensures
 
 -- and nothing is refused
-module _ (c : tie.Else1) where
-  abbrev judged : tie.After-coarser
+module _ (c : tie.Else-judged-ne0) where
+  abbrev judged : tie.After-coarser-judged
   judged = c.before.before
 
   taken : refusal_of (coarsen_row_call (book judged) (ring judged) (times judged) (second judged) (row judged)) ≡ 0
-  taken = sym (asked judged) ∙ c.if1.false
+  taken = sym (asked judged) ∙ c.if-judged-ne0.false
 
 -- once the old book's numbers are there
 module _ (c : tie.After-derive) where
-  abbrev passed : tie.Else1
+  abbrev passed : tie.Else-judged-ne0
   passed = c.before
 
   abbrev old : Book
@@ -62,7 +62,7 @@ module _ (c : tie.After-open) where
   derived = c.before.before.before.before
 
 -- once it has taken the quotients
-module _ (c : tie.After-all) where
+module _ (c : tie.After-all-all) where
   abbrev opened : tie.After-open
   opened = c.before.before.before.before.before.before.before.before.before.before
 
@@ -72,13 +72,13 @@ count-requires c κs = search rules
 count-requires-2 : tie.Need-count-requires-2
 count-requires-2 c κs = search rules
 
-coarser-requires : tie.Need-coarser-requires
+coarser-requires : tie.Need-coarser-judged-requires
 coarser-requires c κs = search rules
 
-returns : tie.Need-returns
+returns : tie.Need-returns-then-judged-ne0
 returns c =
     let j = c.before.before in
-    handed_back (book j) (ring j) (times j) (second j) (row j) (asked j) c.if1.true
+    handed_back (book j) (ring j) (times j) (second j) (row j) (asked j) c.if-judged-ne0.true
 
 derive-requires : tie.Need-derive-requires
 derive-requires c κs = search rules
@@ -86,19 +86,19 @@ derive-requires c κs = search rules
 open-requires : tie.Need-open-requires
 open-requires c κs = search rules
 
-sub-blocks : tie.Need-overflow-sub-blocks
+sub-blocks : tie.Need-overflow_sub-blocks
 sub-blocks c =
     let p = passed (derived c.before.before.before.before.before.before) in
     let j = judged p in
     phase_kept (book j) (ring j) (times j) (second j) (row j) (taken p)
 
-div-blocks : tie.Need-nonzero-div-blocks
+div-blocks : tie.Need-nonzero_div-blocks
 div-blocks c =
     let d = derived c.before.before.before.before.before.before.before in
     let j = judged (passed d) in
     block_some (book j) (ring j) (times j) (second j) (row j) (taken (passed d)) (told d)
 
-all-requires : tie.Need-all-requires
+all-requires : tie.Need-all-all-requires
 all-requires c κs =
     let o = c.before.before.before.before.before.before.before.before.before in
     let d = derived o in
@@ -106,33 +106,33 @@ all-requires c κs =
     let t = taken (passed d) in (
       one_bit (book j) (ring j) (times j) (second j) (row j) t (told d),
       omega (arith, blocks_fit (book j) (ring j) (times j) (second j) (row j) t (told d)),
-      takes (book j) (ring j) (times j) (second j) (row j) t (told d) o.«open».ensures.0 o.«open».ensures.1 o.«open».ensures.2,
+      takes (book j) (ring j) (times j) (second j) (row j) t (told d) o.open.ensures.0 o.open.ensures.1 o.open.ensures.2,
     )
 
-with-tally-requires : tie.Need-with-tally-requires
+with-tally-requires : tie.Need-with_tally-next-requires
 with-tally-requires c κs =
     let a = c.before.before.before.before in
     let o = opened a in
     let d = derived o in
     let j = judged (passed d) in
-    small (book j) (ring j) (times j) (second j) (row j) (taken (passed d)) (told d) o.«open».ensures.0 o.«open».ensures.1
-    o.«open».ensures.2 a.all.ensures.0 a.all.ensures.1 a.all.ensures.2
+    small (book j) (ring j) (times j) (second j) (row j) (taken (passed d)) (told d) o.open.ensures.0 o.open.ensures.1
+    o.open.ensures.2 a.all-all.ensures.0 a.all-all.ensures.1 a.all-all.ensures.2
 
-same_length : tie.Need-same-length
+same_length : tie.Need-shape_of-second
 same_length c = search rules
 
-same-length-2 : tie.Need-same-length-2
+same-length-2 : tie.Need-shape_of-row
 same-length-2 c = search rules
 
-returns-2 : tie.Need-returns-2
+returns-2 : tie.Need-returns
 returns-2 c =
     let a = c.before.before.before.before.before in
     let o = opened a in
     let d = derived o in
     let j = judged (passed d) in
-    done (book j) (ring j) (times j) (second j) (row j) (taken (passed d)) (told d) o.«open».ensures.0 o.«open».ensures.1
-    o.«open».ensures.2 a.all.ensures.0 a.all.ensures.1 a.all.ensures.2 c.with-tally.ensures
-    (j.coarser.ensures.bytes_are (passed d).if1.left)
+    done (book j) (ring j) (times j) (second j) (row j) (taken (passed d)) (told d) o.open.ensures.0 o.open.ensures.1
+    o.open.ensures.2 a.all-all.ensures.0 a.all-all.ensures.1 a.all-all.ensures.2 c.with_tally-next.ensures
+    (j.coarser-judged.ensures.bytes_are (passed d).if-judged-ne0.false)
 
 pub coarsen_row_spec : {M : Type 1} → statement M
 coarsen_row_spec =

@@ -12,33 +12,33 @@ module _ (s : tie.Start) where
   tolerance_fits = mul-le-mul {n₂ = 16} {m₂ = 268431360} s.requires.times_top s.requires.tolerance_top
 
   carry_fits : s.args.book.tolerance * s.args.tally.carry ≤ 268431360 * 65536
-  carry_fits = mul-le-mul {n₂ = 268431360} {m₂ = 65536} s.pre.tolerance_top s.pre.tally_carry_top
+  carry_fits = mul-le-mul {n₂ = 268431360} {m₂ = 65536} s.requires.tolerance_top s.requires.tally_carry_top
 
   phase_fits : s.args.tally.phase * s.args.block ≤ 4096 * 4096
-  phase_fits = mul-le-mul {n₂ = 4096} {m₂ = 4096} s.pre.tally_phase_top s.pre.block_top
+  phase_fits = mul-le-mul {n₂ = 4096} {m₂ = 4096} s.requires.tally_phase_top s.requires.block_top
 
   kept_fits : s.args.blocks * s.args.block ≤ 4096 * 4096
-  kept_fits = mul-le-mul {n₂ = 4096} {m₂ = 4096} s.pre.blocks_top s.pre.block_top
+  kept_fits = mul-le-mul {n₂ = 4096} {m₂ = 4096} s.requires.blocks_top s.requires.block_top
 
-mul-t6 : tie.Need-overflow-mul-t6
+mul-t6 : tie.Need-overflow_mul-result
 mul-t6 c = omega (arith, tolerance_fits c.before)
 
-mul-t7 : tie.Need-overflow-mul-t7
+mul-t7 : tie.Need-overflow_mul-result-2
 mul-t7 c = omega (arith, carry_fits c.before.before.before)
 
-add-t8 : tie.Need-overflow-add-t8
+add-t8 : tie.Need-overflow_add-result
 add-t8 c = let s = c.before.before.before.before in omega (arith, carry_fits s, s.requires.carry_top)
 
-mul-t9 : tie.Need-overflow-mul-t9
+mul-t9 : tie.Need-overflow_mul-result-3
 mul-t9 c = omega (arith, phase_fits c.before.before.before.before.before)
 
-add-t10 : tie.Need-overflow-add-t10
+add-t10 : tie.Need-overflow_add-result-2
 add-t10 c = let s = c.before.before.before.before.before.before in omega (arith, phase_fits s, s.requires.phase_top)
 
-mul-t11 : tie.Need-overflow-mul-t11
+mul-t11 : tie.Need-overflow_mul-result-4
 mul-t11 c = omega (arith, kept_fits c.before.before.before.before.before.before)
 
-add-t12 : tie.Need-overflow-add-t12
+add-t12 : tie.Need-overflow_add-result-3
 add-t12 c = let s = c.before.before.before.before.before.before.before in omega (arith, kept_fits s, s.requires.phase_top)
 
 returns : tie.Need-returns

@@ -2,33 +2,34 @@
 -- Assumes nothing.
 use borrow.Author.Rules.{rules}
 use Prim.Native.Nat.{ℕ, ◌<◌}
-use mathlib.Core.Logic.{⊎_elim}
 use mathlib.Core.Path.{◌≡◌, sym, ap, subst, ◌∙◌}
 use Rattle.ring.specs.declared.Answer.{Answer}
 use Rattle.ring.specs.Slot.{field}
 use Rattle.ring.specs.Newest.{newest}
 use Rattle.ring.proofs.Promises.{newest_near, newest_far, newest_lt, read_reads}
 use Rattle.coarse.proofs.tally.quotient.Statement.{statement}
+use Rattle.coarse.proofs.tally.quotient.Lts.{then-j-head, else-j-head}
 use Rattle.coarse.proofs.tally.quotient.Tie as tie
 
-add-slot : tie.Need-overflow-add-slot
+add-slot : tie.Need-overflow_add-slot
 add-slot c = search rules
 
-sub-slot : tie.Need-overflow-sub-slot
+sub-slot : tie.Need-overflow_sub-slot-else-j-head
 sub-slot c = search rules
 
 -- once the slot is found
-module _ (c : tie.Joined1) where
+module _ (c : tie.Joined-j-head) where
   abbrev start : tie.Start
   start = c.before.before
 
-  slot_is : c.if1.slot ≡ newest start.args.shape.slots start.args.head start.args.j
+  slot_is : c.if-j-head.slot ≡ newest start.args.shape.slots start.args.head start.args.j
   slot_is =
       let a = start.args in
       let slots = a.shape.slots in
-      ⊎_elim (λ w. w.1 ∙ sym (newest_near slots a.head a.j w.0.taken))
-      (λ w. w.2 ∙ sym (newest_far slots a.head a.j w.0.left start.pre.3))
-      c.if1.branch
+      elim c.if-j-head.branch [
+        then-j-head w ↦ w.slot-is ∙ sym (newest_near slots a.head a.j w.if-j-head.true)
+        | else-j-head w ↦ w.slot-is ∙ sym (newest_far slots a.head a.j w.if-j-head.false start.requires.3)
+      ]
 
 read-requires : tie.Need-read-requires
 read-requires c κs = search rules
@@ -39,9 +40,9 @@ returns c =
     let s = start found in
     let shape = s.args.shape in
     let ring = s.args.ring.now in
-    let below : found.if1.slot < shape.slots =
-    subst (λ (n : ℕ). n < shape.slots) (sym (slot_is found)) (newest_lt shape.slots s.args.head s.args.j s.pre.1) in
-    ap (λ (r : Answer). r.value) (c.read.ensures ∙ read_reads shape.width shape.slots ring s.pre.0 found.if1.slot below)
+    let below : found.if-j-head.slot < shape.slots =
+    subst (λ (n : ℕ). n < shape.slots) (sym (slot_is found)) (newest_lt shape.slots s.args.head s.args.j s.requires.1) in
+    ap (λ (r : Answer). r.value) (c.read.ensures ∙ read_reads shape.width shape.slots ring s.requires.0 found.if-j-head.slot below)
     ∙ ap (field shape.width ring) (slot_is found)
 
 pub quotient_spec : {M : Type 1} → statement M

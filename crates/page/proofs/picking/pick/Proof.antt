@@ -45,77 +45,77 @@ module _ (s : tie.Start) where
   unfolding pick_call
   shown = then_shown s.args.book s.args.window s.args.amount lent _ no_picture
 
-abbrev start : tie.After-verdict → tie.Start
+abbrev start : tie.After-verdict-ruling → tie.Start
 start c = c.before.before.before.before
 
 abbrev refusal : Numbers → ℕ
 refusal numbers = numbers.refusal
 
-own : (c : tie.After-refusal-in) → c.refusal_in_lem.result ≡ refusal_in (asked (start c.before))
-own c = c.refusal_in_lem.ensures ∙ ap refusal_in c.before.verdict.ensures
+own : (c : tie.After-refusal_in-refusal) → c.refusal_in-refusal.result ≡ refusal_in (asked (start c.before))
+own c = c.refusal_in-refusal.ensures ∙ ap refusal_in c.before.verdict-ruling.ensures
 
-told : (c : tie.Else1) → refusal_in (asked (start c.before.before)) ≡ 0
-told c = sym (own c.before) ∙ c.if1.false
+told : (c : tie.Else-refusal-ne0) → refusal_in (asked (start c.before.before)) ≡ 0
+told c = sym (own c.before) ∙ c.if-refusal-ne0.false
 
-one_taken : (c : tie.Else2) → refusal (numbers_of (start c.before.before.before.before.before).args.newest.now) ≡ 0
-one_taken c = sym (ap refusal c.before.before.header.ensures) ∙ c.if2.false
+one_taken : (c : tie.Else-newest_numbers-ne0) → refusal (numbers_of (start c.before.before.before.before.before).args.newest.now) ≡ 0
+one_taken c = sym (ap refusal c.before.before.header-newest_numbers.ensures) ∙ c.if-newest_numbers-ne0.false
 
-verdict-requires : tie.Need-verdict-requires
+verdict-requires : tie.Need-verdict-ruling-requires
 verdict-requires c κs = search rules
 
-refusal-in-requires : tie.Need-refusal-in-requires
+refusal-in-requires : tie.Need-refusal_in-refusal-requires
 refusal-in-requires c κs = search rules
 
-no-picture-requires : tie.Need-no-picture-requires
+no-picture-requires : tie.Need-no_picture-requires
 no-picture-requires c κs = search rules
 
-returns : tie.Need-returns
+returns : tie.Need-returns-then-refusal-ne0
 returns c = let p = c.before.before in
-    c.no-picture.ensures ∙ ap no_picture (own p) ∙ first (start p.before) (λ e. c.before.if1.true (own p ∙ e))
+    c.no_picture.ensures ∙ ap no_picture (own p) ∙ first (start p.before) (λ e. c.before.if-refusal-ne0.true (own p ∙ e))
 
-header-requires : tie.Need-header-requires
+header-requires : tie.Need-header-newest_numbers-requires
 header-requires c κs = search rules
 
-no-picture-requires-2 : tie.Need-no-picture-requires-2
+no-picture-requires-2 : tie.Need-no_picture-requires-then-newest_numbers-ne0
 no-picture-requires-2 c κs = search rules
 
-returns-2 : tie.Need-returns-2
+returns-2 : tie.Need-returns-then-newest_numbers-ne0
 returns-2 c = let h = c.before.before.before in
-    let number = ap refusal h.header.ensures in
-    c.no-picture2.ensures ∙ ap no_picture number
-    ∙ next (start h.before.before.before) (told h.before) (λ e. c.before.if2.true (number ∙ e))
+    let number = ap refusal h.header-newest_numbers.ensures in
+    c.no_picture-then-newest_numbers-ne0.ensures ∙ ap no_picture number
+    ∙ next (start h.before.before.before) (told h.before) (λ e. c.before.if-newest_numbers-ne0.true (number ∙ e))
 
-header-requires-2 : tie.Need-header-requires-2
+header-requires-2 : tie.Need-header-older_numbers-requires
 header-requires-2 c κs = search rules
 
-no-picture-requires-3 : tie.Need-no-picture-requires-3
+no-picture-requires-3 : tie.Need-no_picture-requires-then-older_numbers-ne0
 no-picture-requires-3 c κs = search rules
 
-returns-3 : tie.Need-returns-3
+returns-3 : tie.Need-returns-then-older_numbers-ne0
 returns-3 c = let h = c.before.before.before in
     let one = h.before in
     let first_left = one.before.before.before in
-    let number = ap refusal h.header2.ensures in
-    c.no-picture3.ensures ∙ ap no_picture number
-    ∙ last (start first_left.before.before) (told first_left) (one_taken one) (λ e. c.before.if3.true (number ∙ e))
+    let number = ap refusal h.header-older_numbers.ensures in
+    c.no_picture-then-older_numbers-ne0.ensures ∙ ap no_picture number
+    ∙ last (start first_left.before.before) (told first_left) (one_taken one) (λ e. c.before.if-older_numbers-ne0.true (number ∙ e))
 
-picture-in-requires : tie.Need-picture-in-requires
+picture-in-requires : tie.Need-picture_in-picture-requires
 picture-in-requires c κs = search rules
 
-numbers-of-requires : tie.Need-numbers-of-requires
+numbers-of-requires : tie.Need-numbers_of-numbers-requires
 numbers-of-requires c κs = search rules
 
-returns-4 : tie.Need-returns-4
+returns-4 : tie.Need-returns
 returns-4 c = let two = c.before.before in
     let h2 = two.before.before in
     let one = h2.before in
     let h1 = one.before.before in
     let asking = h1.before.before.before in
-    let picture = c.before.picture-in.ensures ∙ ap picture_in asking.verdict.ensures in
-    let numbers = c.Numbers-of.ensures ∙ (λ i. of_shown (picture i) (h1.header.ensures i) (h2.header2.ensures i))
+    let picture = c.before.picture_in-picture.ensures ∙ ap picture_in asking.verdict-ruling.ensures in
+    let numbers = c.numbers_of-numbers.ensures ∙ (λ i. of_shown (picture i) (h1.header-newest_numbers.ensures i) (h2.header-older_numbers.ensures i))
     ∙ sym (of_shown_made numbers_of (picture_in (asked (start asking))) (lent (start asking)).newest (lent (start asking)).older) in
     (λ i. picked_of (picture i) (numbers i).start (numbers i).used)
-    ∙ shown (start asking) (told h1.before) (one_taken one) (sym (ap refusal h2.header2.ensures) ∙ two.if3.false)
+    ∙ shown (start asking) (told h1.before) (one_taken one) (sym (ap refusal h2.header-older_numbers.ensures) ∙ two.if-older_numbers-ne0.false)
 
 pub pick_spec : {M : Type 1} → statement M
 pick_spec =

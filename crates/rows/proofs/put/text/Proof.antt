@@ -11,33 +11,33 @@ use Rattle.rows.proofs.Writing.{sets_append}
 use Rattle.rows.proofs.put.text.Statement.{statement}
 use Rattle.rows.proofs.put.text.Tie as tie
 
-abbrev invariant-loop : tie.invariant-loop
+abbrev invariant-loop : tie.invariant-loop-i
 invariant-loop out₀ at s i₀ out i = (i ≤ length s) × (length out ≡ length out₀) × (out ≡ sets out₀ at (take i s))
 
-abbrev decreases-loop : tie.decreases-loop
+abbrev decreases-loop : tie.decreases-loop-i
 decreases-loop out₀ at s i₀ out i = length s - i
 
-loop-holds : tie.Need-loop-init invariant-loop decreases-loop
+loop-holds : tie.Need-loop-i-init invariant-loop decreases-loop
 loop-holds c = (omega arith, refl, refl)
 
-shared-slice-read-out : tie.Need-shared-slice-read-out invariant-loop decreases-loop
+shared-slice-read-out : tie.Need-bounds-s-i invariant-loop decreases-loop
 shared-slice-read-out c = omega arith
 
-add-out : tie.Need-overflow-add-out invariant-loop decreases-loop
-add-out c = omega (arith, c.before.before.before.well-formed)
+add-out : tie.Need-overflow_add-out invariant-loop decreases-loop
+add-out c = omega (arith, c.before.before.before.well_formed)
 
-slice-write-out : tie.Need-slice-write-out invariant-loop decreases-loop
+slice-write-out : tie.Need-bounds-out-at invariant-loop decreases-loop
 slice-write-out c = omega arith
 
-add-i : tie.Need-overflow-add-i invariant-loop decreases-loop
+add-i : tie.Need-overflow_add-i invariant-loop decreases-loop
 add-i c = omega arith
 
-loop-less : tie.Need-loop-smaller invariant-loop decreases-loop
+loop-less : tie.Need-loop-i-smaller invariant-loop decreases-loop
 loop-less c = omega arith
 
-loop-again : tie.Need-loop-preserved invariant-loop decreases-loop
+loop-again : tie.Need-loop-i-preserved invariant-loop decreases-loop
 loop-again c = let a = c.before.before.before.args in
-    let l = c.before.before.loop in
+    let l = c.before.before.loop-i in
     let s = a.s.now in
     let x = get_or s l.i 0 in
     let inside : l.i < length s = omega arith in
@@ -51,15 +51,15 @@ loop-again c = let a = c.before.before.before.args in
           ∙ ap (sets a.out.now a.at) (sym (take-suc s l.i 0 inside)),
     )
 
-add-result : tie.Need-overflow-add-result invariant-loop decreases-loop
-add-result c = omega (arith, c.before.before.well-formed)
+add-result : tie.Need-overflow_add-result invariant-loop decreases-loop
+add-result c = omega (arith, c.before.before.well_formed)
 
-same_length : tie.Need-same-length invariant-loop decreases-loop
-same_length c = c.before.loop.invariant.1
+same_length : tie.Need-shape_of-out invariant-loop decreases-loop
+same_length c = c.before.loop-i.invariant.1
 
 returns : tie.Need-returns invariant-loop decreases-loop
 returns c = let a = c.before.before.args in
-    let l = c.before.loop in
+    let l = c.before.loop-i in
     let all : l.i ≡ length a.s.now = omega arith in
     record {
       bytes =

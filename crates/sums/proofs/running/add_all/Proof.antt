@@ -3,7 +3,6 @@
 use borrow.Author.Rules.{rules}
 use native.Mathlib.Omega.{arith}
 use Prim.Native.Nat.{◌-◌, min}
-use mathlib.Core.Logic.{⊎_elim}
 use mathlib.Core.Path.{◌≡◌}
 use lib.ListN.{length}
 use Rattle.sums.specs.RunParts.{items_left}
@@ -30,7 +29,7 @@ module _ (c : tie.Joined-most-left invariant-loop decreases-loop) where
   many_is =
       let left = c.before.items_left-most.ensures in
       elim c.if-most-left.branch [
-        then-most-left w ↦ omega (arith, left, w.if-most-left.true, w.part-is)
+        | then-most-left w ↦ omega (arith, left, w.if-most-left.true, w.part-is)
         | else-most-left w ↦ omega (arith, left, w.if-most-left.false, w.part-is)
       ]
 

@@ -3,10 +3,7 @@
 use borrow.Author.Rules.{rules}
 use native.Mathlib.Omega.{arith}
 use Prim.Native.Nat.{ℕ}
-use mathlib.Core.List.{List}
-use mathlib.Core.Logic.{⊎_elim}
 use mathlib.Core.Path.{sym, ap, subst, ◌∙◌}
-use lib.ListN.{length}
 use Rattle.ring.specs.Lent.{Lent}
 use Rattle.book.specs.declared.Ran.{Ran}
 use Rattle.sums.proofs.ShapeInUse.{use_slots, use_lent}
@@ -67,8 +64,8 @@ returns c =
       ap (λ (r : Ran). r.book) ran.run-ran.ensures.0 ∙ adds.0,
       ring_is,
       elim c.before.if-count-items_left.branch [
-        then-count-items_left w ↦ w.row-is ∙ w.put.ensures
-        ∙ part_stores ring row t s.requires.1 (sym counted.count.ensures ∙ w.if-count-items_left.true ∙ left.items_left.ensures) w.group_end.ensures ring_is
+        | then-count-items_left w ↦ w.row-is ∙ w.put.ensures
+            ∙ part_stores ring row t s.requires.1 (sym counted.count.ensures ∙ w.if-count-items_left.true ∙ left.items_left.ensures) w.group_end.ensures ring_is
         | else-count-items_left w ↦ w.row-is ∙ part_leaves ring row t s.requires.1 (λ e. w.if-count-items_left.false (counted.count.ensures ∙ e ∙ sym left.items_left.ensures))
       ],
     )

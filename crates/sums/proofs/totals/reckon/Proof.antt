@@ -1,7 +1,7 @@
 -- `sums::totals::reckon` meets its contract: no step wraps, whatever numbers the row holds.
 -- Assumes nothing.
 use borrow.Author.Rules.{rules}
-use Prim.Native.Nat.{◌+◌, ◌-◌, ◌*◌, ◌≤◌}
+use Prim.Native.Nat.{◌+◌, ◌*◌, ◌≤◌}
 use native.Mathlib.Omega.{arith}
 use native.Mathlib.Nat.{mul-le-mul}
 use Rattle.book.proofs.Promises.{carry_top, times_top, reckoned_is}
