@@ -99,6 +99,7 @@ fn at_first(turns: usize, zones: usize, low: usize, refusal: u8) -> Round
 }
 
 // One turn, with the record of its zone.
+#[tactic(auto, unfolding(crate::specs::Turns::turned, crate::specs::Turns::turned_rings))]
 pub(crate) fn turn(round: Round, old: Book, rings: &mut [u8], counts: &[u64]) -> Round
     requires { TurnFits round old rings.old counts.now }
     ensures { (result ≡ turned round old rings.old counts.now) × (rings.new ≡ turned_rings round old rings.old counts.now) }
@@ -170,6 +171,7 @@ fn bytes(book: Book) -> usize
 }
 
 // 8 goes before 17 and 7; otherwise the lowest zone is named. 8 is what waking is refused with; the record that it gives is not used.
+#[tactic(auto, using(book::proofs::Promises::mark_number, book::proofs::Promises::mark_refusal, crate::proofs::RefusedOrNot::is_refused))]
 fn tell(round: Round, old: Book, counts: &[u64]) -> Zoned
     ensures { result ≡ told_after round old counts.now }
 {
