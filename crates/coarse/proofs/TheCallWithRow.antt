@@ -14,7 +14,7 @@ use Rattle.book.specs.declared.Book.{Book}
 use Rattle.book.specs.declared.Updated.{Updated}
 use Rattle.book.specs.declared.shape.Shape.{Shape}
 use Rattle.book.specs.Shape.{shape_call}
-use Rattle.book.specs.Record.{slots_of, shape_for, opened}
+use Rattle.book.specs.Record.{slots_of, shape_for}
 use Rattle.book.specs.Sound.{Ranges, Usable}
 use Rattle.book.specs.RunOfCounts.{added_all, added_all_ring}
 use Rattle.book.proofs.Promises.{shape_cases, open_taken, open_gives, block_low, block_high, slots_top, times_top, carry_top}

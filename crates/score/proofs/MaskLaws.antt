@@ -15,7 +15,7 @@ use Rattle.image.specs.declared.Numbers.{Numbers}
 use Rattle.image.specs.Reading.{numbers_of, positions_of, pixel_of}
 use Rattle.image.specs.Mask.{mask_numbers_of}
 use Rattle.score.specs.declared.Answer.{Answer}
-use Rattle.score.specs.Changed.{moved_at, counted}
+use Rattle.score.specs.Changed.{moved_at}
 use Rattle.score.specs.Calls.{side_faults, differ_faults, image_faults, score_faults, score_number, score_call}
 use Rattle.score.specs.Black.{black_of}
 use Rattle.score.specs.Masked.{unmasked, masked_number, masked_faults, masked_call, Fits, SameSides, AllWhite, AllBlack, Blacker}

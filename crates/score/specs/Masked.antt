@@ -1,5 +1,5 @@
 -- The score of two images under a mask (SCOPE, Masks): what is refused, in order, and the number that is given.
-use Rattle.std.specs.Prelude.{ℕ, ◌<◌, min, Bool, true, false, not, ◌&&◌, List, [], ◌∷◌, ◌++◌, ◌≡◌}
+use Rattle.std.specs.Prelude.{ℕ, ◌<◌, min, Bool, true, false, not, ◌&&◌, List, ◌∷◌, ◌++◌, ◌≡◌}
 use Rattle.refusals.specs.First.{Fault, passed_on}
 use Rattle.refusals.specs.Call.{Call}
 use Rattle.image.specs.declared.Numbers.{Numbers}

@@ -29,7 +29,7 @@ module _ (c : tie.Joined-left-lt-PART invariant-loop decreases-loop) where
   part_few : c.if-left-lt-PART.n ≡ min turn.loop-left.left 64
   part_few =
       elim c.if-left-lt-PART.branch [
-        then-left-lt-PART w ↦ omega (arith, w.if-left-lt-PART.true, w.n-is)
+        | then-left-lt-PART w ↦ omega (arith, w.if-left-lt-PART.true, w.n-is)
         | else-left-lt-PART w ↦ omega (arith, w.if-left-lt-PART.false, w.n-is)
       ]
 

@@ -27,7 +27,7 @@ module _ (c : tie.Joined-j-head) where
       let a = start.args in
       let slots = a.shape.slots in
       elim c.if-j-head.branch [
-        then-j-head w ↦ w.slot-is ∙ sym (newest_near slots a.head a.j w.if-j-head.true)
+        | then-j-head w ↦ w.slot-is ∙ sym (newest_near slots a.head a.j w.if-j-head.true)
         | else-j-head w ↦ w.slot-is ∙ sym (newest_far slots a.head a.j w.if-j-head.false start.requires.3)
       ]
 

@@ -4,10 +4,10 @@ use native.Mathlib.Omega.{arith}
 use Rattle.score.proofs.count.at_most.Statement.{statement}
 use Rattle.score.proofs.count.at_most.Tie as tie
 
-returns : tie.Need-returns
+returns : tie.Need-returns-then-bound-wide
 returns c = omega arith
 
-returns-2 : tie.Need-returns-2
+returns-2 : tie.Need-returns-else-bound-wide
 returns-2 c = omega arith
 
 pub at_most_spec : {M : Type 1} → statement M

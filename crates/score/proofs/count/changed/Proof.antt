@@ -29,67 +29,67 @@ left allowance maxval per count first second {threshold} {near} is_per is-count 
     (omega (arith, counted_near, all), rw (is_per, is-count) (omega (arith, counted_near, all)))
 
 -- with one byte a pixel
-module _ (c : tie.After-near-of) where
-  abbrev small : tie.Then1
+module _ (c : tie.After-near_of-near) where
+  abbrev small : tie.Then-maxval-le-BYTE_MOST
   small = c.before.before
 
   abbrev start : tie.Start
   start = small.before.before.before
 
   left_of_bytes : let a = start.args in
-      Left a.allowance a.maxval (length a.first.now) c.Near-of.result a.first.now a.second.now
+      Left a.allowance a.maxval (length a.first.now) c.near_of-near.result a.first.now a.second.now
   left_of_bytes =
       let a = start.args in
       left a.allowance a.maxval 1 (length a.first.now) a.first.now a.second.now
-      (pixel_bytes_one a.maxval small.if1.taken) (omega arith) c.before.byte-threshold.ensures c.Near-of.ensures
+      (pixel_bytes_one a.maxval small.if-maxval-le-BYTE_MOST.true) (omega arith) c.before.byte_threshold.ensures c.near_of-near.ensures
 
 -- with two
-module _ (c : tie.After-near-of2) where
-  abbrev large : tie.Else1
+module _ (c : tie.After-near_of-near-2) where
+  abbrev large : tie.Else-maxval-le-BYTE_MOST
   large = c.before.before
 
   abbrev start2 : tie.Start
   start2 = large.before.before.before
 
   left_of_pairs : let a = start2.args in
-      Left a.allowance a.maxval (length a.first.now / 2) c.near-of2.result a.first.now a.second.now
+      Left a.allowance a.maxval (length a.first.now / 2) c.near_of-near-2.result a.first.now a.second.now
   left_of_pairs =
       let a = start2.args in
       left a.allowance a.maxval 2 (length a.first.now / 2) a.first.now a.second.now
-      (pixel_bytes_two a.maxval large.if1.left) (omega arith) c.before.threshold.ensures c.near-of2.ensures
+      (pixel_bytes_two a.maxval large.if-maxval-le-BYTE_MOST.false) (omega arith) c.before.threshold.ensures c.near_of-near-2.ensures
 
-byte-threshold-requires : tie.Need-byte-threshold-requires
+byte-threshold-requires : tie.Need-byte_threshold-requires
 byte-threshold-requires c κs = search rules
 
-near-of-requires : tie.Need-near-of-requires
+near-of-requires : tie.Need-near_of-near-requires
 near-of-requires c κs = search rules
 
-cast-result : tie.Need-overflow-cast-result
+cast-result : tie.Need-overflow_cast-result
 cast-result c = search rules
 
-sub-result : tie.Need-overflow-sub-result
+sub-result : tie.Need-overflow_sub-result
 sub-result c = (left_of_bytes c).0
 
-returns : tie.Need-returns
+returns : tie.Need-returns-then-maxval-le-BYTE_MOST
 returns c = (left_of_bytes c).1
 
 threshold-requires : tie.Need-threshold-requires
 threshold-requires c κs = search rules
 
-cast-near-of : tie.Need-overflow-cast-near-of
+cast-near-of : tie.Need-overflow_cast-threshold
 cast-near-of c = let a = c.before.before.before.before.args in
     omega (arith, c.threshold.ensures, threshold_most a.allowance a.maxval (omega arith))
 
-near-of-requires-2 : tie.Need-near-of-requires-2
+near-of-requires-2 : tie.Need-near_of-near-requires-2
 near-of-requires-2 c κs = search rules
 
-cast-result-2 : tie.Need-overflow-cast-result-2
+cast-result-2 : tie.Need-overflow_cast-result-2
 cast-result-2 c = search rules
 
-sub-result-2 : tie.Need-overflow-sub-result-2
+sub-result-2 : tie.Need-overflow_sub-result-2
 sub-result-2 c = (left_of_pairs c).0
 
-returns-2 : tie.Need-returns-2
+returns-2 : tie.Need-returns
 returns-2 c = (left_of_pairs c).1
 
 pub changed_spec : {M : Type 1} → statement M

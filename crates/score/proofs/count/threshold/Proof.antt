@@ -7,7 +7,7 @@ use native.Mathlib.Nat.{mul-le-mul}
 use Rattle.score.proofs.count.threshold.Statement.{statement}
 use Rattle.score.proofs.count.threshold.Tie as tie
 
-mul-result : tie.Need-overflow-mul-result
+mul-result : tie.Need-overflow_mul-result
 mul-result c = let byte : c.args.allowance ≤ 255 = omega arith in
     omega (arith, mul-le-mul byte c.requires)
 

@@ -10,25 +10,25 @@ use Rattle.score.proofs.judge.differ.Statement.{statement}
 use Rattle.score.proofs.judge.differ.Tie as tie
 
 -- the sides give nothing
-alike : (c : tie.Else1) → let a = c.before.before.args in first_of (side_faults a.one a.two) ≡ 0
-alike c = sym c.before.sides-differ.ensures ∙ c.if1.false
+alike : (c : tie.Else-sides-ne0) → let a = c.before.before.args in first_of (side_faults a.one a.two) ≡ 0
+alike c = sym c.before.sides_differ-sides.ensures ∙ c.if-sides-ne0.false
 
-sides-differ-requires : tie.Need-sides-differ-requires
+sides-differ-requires : tie.Need-sides_differ-sides-requires
 sides-differ-requires c κs = search rules
 
-returns : tie.Need-returns
+returns : tie.Need-returns-then-sides-ne0
 returns c = let a = c.before.before.args in
-    first_own (side_faults a.one a.two) (maxval_faults a.one a.two) c.before.sides-differ.ensures c.if1.true
+    first_own (side_faults a.one a.two) (maxval_faults a.one a.two) c.before.sides_differ-sides.ensures c.if-sides-ne0.true
 
-returns-2 : tie.Need-returns-2
+returns-2 : tie.Need-returns-then-one-two
 returns-2 c = let e = c.before.before.before in
     let a = e.before.before.args in
-    rw (first_later (side_faults a.one a.two) (maxval_faults a.one a.two) (alike e), ne_eqb a.one.maxval a.two.maxval c.if2.true)
+    rw (first_later (side_faults a.one a.two) (maxval_faults a.one a.two) (alike e), ne_eqb a.one.maxval a.two.maxval c.if-one-two.true)
 
-returns-3 : tie.Need-returns-3
+returns-3 : tie.Need-returns
 returns-3 c = let e = c.before.before.before in
     let a = e.before.before.args in
-    rw (first_later (side_faults a.one a.two) (maxval_faults a.one a.two) (alike e), eq-eqb a.one.maxval a.two.maxval c.if2.false)
+    rw (first_later (side_faults a.one a.two) (maxval_faults a.one a.two) (alike e), eq-eqb a.one.maxval a.two.maxval c.if-one-two.false)
 
 pub differ_spec : {M : Type 1} → statement M
 differ_spec = tie.close (tie.spec sides-differ-requires returns returns-2 returns-3)

@@ -25,43 +25,43 @@ module _ (s : tie.Start) where
   abbrev whole : List Fault
   whole = masked_faults s.args.bound s.args.one s.args.two s.args.mask
 
-past_own : (c : tie.Else1) → let s = c.before.before in first_of (whole s) ≡ first_of (behind s)
+past_own : (c : tie.Else-own-ne0) → let s = c.before.before in first_of (whole s) ≡ first_of (behind s)
 past_own c = let s = c.before.before in
-    first_later (own s) (behind s) (sym c.before.of-images.ensures ∙ c.if1.false)
+    first_later (own s) (behind s) (sym c.before.of_images-own.ensures ∙ c.if-own-ne0.false)
 
-past_mask : (c : tie.Else2) → let s = c.before.before.before.before in first_of (whole s) ≡ first_of (unlike s)
+past_mask : (c : tie.Else-mask-ne0) → let s = c.before.before.before.before in first_of (whole s) ≡ first_of (unlike s)
 past_mask c = let s = c.before.before.before.before in
-    past_own c.before.before ∙ passed_on_past s.args.mask.refusal (unlike s) c.if2.false
+    past_own c.before.before ∙ passed_on_past s.args.mask.refusal (unlike s) c.if-mask-ne0.false
 
-of-images-requires : tie.Need-of-images-requires
+of-images-requires : tie.Need-of_images-own-requires
 of-images-requires c κs = search rules
 
-returns : tie.Need-returns
+returns : tie.Need-returns-then-own-ne0
 returns c = let s = c.before.before in
-    first_own (own s) (behind s) c.before.of-images.ensures c.if1.true
+    first_own (own s) (behind s) c.before.of_images-own.ensures c.if-own-ne0.true
 
-returns-2 : tie.Need-returns-2
+returns-2 : tie.Need-returns-then-mask-ne0
 returns-2 c = let s = c.before.before.before.before in
-    passed_on_first s.args.mask.refusal (unlike s) c.if2.true ∙ sym (past_own c.before.before)
+    passed_on_first s.args.mask.refusal (unlike s) c.if-mask-ne0.true ∙ sym (past_own c.before.before)
 
-differ-requires : tie.Need-differ-requires
+differ-requires : tie.Need-differ-unlike-requires
 differ-requires c κs = search rules
 
-returns-3 : tie.Need-returns-3
+returns-3 : tie.Need-returns-then-unlike-ne0
 returns-3 c = let e = c.before.before in
     let a = e.before.before.before.before.args in
-    first_own (differ_faults a.one a.two) (side_faults a.one a.mask) c.before.differ.ensures c.if3.true ∙ sym (past_mask e)
+    first_own (differ_faults a.one a.two) (side_faults a.one a.mask) c.before.differ-unlike.ensures c.if-unlike-ne0.true ∙ sym (past_mask e)
 
-sides-differ-requires : tie.Need-sides-differ-requires
+sides-differ-requires : tie.Need-sides_differ-requires
 sides-differ-requires c κs = search rules
 
-returns-4 : tie.Need-returns-4
+returns-4 : tie.Need-returns
 returns-4 c = let d = c.before.before in
     let e = d.before in
     let a = e.before.before.before.before.args in
-    c.sides-differ.ensures
+    c.sides_differ.ensures
     ∙ sym (past_mask e
-    ∙ first_later (differ_faults a.one a.two) (side_faults a.one a.mask) (sym d.differ.ensures ∙ c.before.if3.false))
+    ∙ first_later (differ_faults a.one a.two) (side_faults a.one a.mask) (sym d.differ-unlike.ensures ∙ c.before.if-unlike-ne0.false))
 
 pub masked_refusal_spec : {M : Type 1} → statement M
 masked_refusal_spec =

@@ -4,17 +4,17 @@ use borrow.Author.Tests.{eq-eqb, ne_eqb}
 use Rattle.score.proofs.judge.sides_differ.Statement.{statement}
 use Rattle.score.proofs.judge.sides_differ.Tie as tie
 
-returns : tie.Need-returns
+returns : tie.Need-returns-then-one-two
 returns c = let a = c.before.before.before.args in
-    rw (ne_eqb a.one.width a.two.width c.if1.true)
+    rw (ne_eqb a.one.width a.two.width c.if-one-two.true)
 
-returns-2 : tie.Need-returns-2
+returns-2 : tie.Need-returns-then-one-two-2
 returns-2 c = let a = c.before.before.before.before.before.before.args in
-    rw (eq-eqb a.one.width a.two.width c.before.before.before.if1.false, ne_eqb a.one.height a.two.height c.if2.true)
+    rw (eq-eqb a.one.width a.two.width c.before.before.before.if-one-two.false, ne_eqb a.one.height a.two.height c.if-one-two-2.true)
 
-returns-3 : tie.Need-returns-3
+returns-3 : tie.Need-returns
 returns-3 c = let a = c.before.before.before.before.before.before.args in
-    rw (eq-eqb a.one.width a.two.width c.before.before.before.if1.false, eq-eqb a.one.height a.two.height c.if2.false)
+    rw (eq-eqb a.one.width a.two.width c.before.before.before.if-one-two.false, eq-eqb a.one.height a.two.height c.if-one-two-2.false)
 
 pub sides_differ_spec : {M : Type 1} → statement M
 sides_differ_spec = tie.close (tie.spec returns returns-2 returns-3)

@@ -1,9 +1,8 @@
 -- `score::under_mask::changed` meets its contract: before each row the count is that of the positions before it.
 -- Assumes nothing.
 use borrow.Author.Rules.{rules}
-use Prim.Native.Nat.{ℕ, ◌+◌, ◌*◌, ◌-◌, ◌≤◌, ◌<◌}
+use Prim.Native.Nat.{ℕ, ◌+◌, ◌*◌, ◌-◌, ◌≤◌}
 use mathlib.Core.Bool.{Bool}
-use mathlib.Core.List.{List}
 use mathlib.Core.Path.{◌≡◌, refl, sym, ap, ◌∙◌}
 use native.Mathlib.Omega.{arith}
 use native.Mathlib.Nat.{mul_comm}
@@ -19,11 +18,11 @@ use Rattle.score.proofs.Runs.{have_fewer, have_few, row_ends, row_positions, row
 use Rattle.score.proofs.under_mask.changed.Statement.{statement}
 use Rattle.score.proofs.under_mask.changed.Tie as tie
 
-abbrev invariant-loop : tie.invariant-loop
+abbrev invariant-loop : tie.invariant-loop-row
 invariant-loop first second mask width height allowance maxval whites stride count₀ row₀ count row =
     (row ≤ height) × (count ≡ counted (unmasked (black_at width mask) (moved_in allowance maxval first second)) (row * width))
 
-abbrev decreases-loop : tie.decreases-loop
+abbrev decreases-loop : tie.decreases-loop-row
 decreases-loop first second mask width height allowance maxval whites stride count₀ row₀ count row = height - row
 
 -- which positions count
@@ -35,92 +34,92 @@ module _ (s : tie.Start invariant-loop decreases-loop) where
   test = unmasked (black_at s.args.width s.args.mask.now) moves
 
 -- where a row lies in the mask, and in the images
-module _ (c : tie.In-loop invariant-loop decreases-loop) where
+module _ (c : tie.In-loop-row invariant-loop decreases-loop) where
   abbrev start : tie.Start invariant-loop decreases-loop
   start = c.before.before.before.before.before.before
 
   abbrev row : ℕ
-  row = c.before.loop.row
+  row = c.before.loop-row.row
 
   ends : row * row_bytes start.args.width + row_bytes start.args.width ≤ length start.args.mask.now
-  ends = row_ends start.args.width start.args.mask.now row c.loop-test.true start.pre.2
+  ends = row_ends start.args.width start.args.mask.now row c.loop-row-test.true start.requires.2
 
   positions : row * start.args.width + start.args.width ≤ start.args.width * start.args.height
-  positions = row_positions start.args.width start.args.mask.now row c.loop-test.true
+  positions = row_positions start.args.width start.args.mask.now row c.loop-row-test.true
 
 -- the count with the row's own
-module _ (c : tie.After-in-row invariant-loop decreases-loop) where
-  abbrev turn : tie.In-loop invariant-loop decreases-loop
+module _ (c : tie.After-in_row-count invariant-loop decreases-loop) where
+  abbrev turn : tie.In-loop-row invariant-loop decreases-loop
   turn = c.before.before
 
-  with_own : turn.before.loop.count + c.in_row.result ≡ counted (test (start turn)) ((row turn + 1) * (start turn).args.width)
+  with_own : turn.before.loop-row.count + c.in_row-count.result ≡ counted (test (start turn)) ((row turn + 1) * (start turn).args.width)
   with_own = let s = start turn in
-      with_row s.args.width s.args.mask.now (row turn) (moves s) turn.before.loop.inv.1 c.in_row.ensures
+      with_row s.args.width s.args.mask.now (row turn) (moves s) turn.before.loop-row.invariant.1 c.in_row-count.ensures
 
-slice-aggregate-whites : tie.Need-slice-aggregate-whites invariant-loop decreases-loop
+slice-aggregate-whites : tie.Need-slice_bounds-whites-end invariant-loop decreases-loop
 slice-aggregate-whites c = refl
 
-add-stride : tie.Need-overflow-add-stride invariant-loop decreases-loop
+add-stride : tie.Need-overflow_add-stride invariant-loop decreases-loop
 add-stride c = omega arith
 
-loop-holds : tie.Need-loop-init invariant-loop decreases-loop
+loop-holds : tie.Need-loop-row-init invariant-loop decreases-loop
 loop-holds c = let s = c.before.before.before.before in
     let none : 0 * s.args.width ≡ 0 = omega arith in
     (omega arith, sym (ap (counted (test s)) none ∙ counted_none (test s)))
 
-mul-start : tie.Need-overflow-mul-start invariant-loop decreases-loop
+mul-start : tie.Need-overflow_mul-start invariant-loop decreases-loop
 mul-start c = let e = ends c in
     search rules
 
-add-in-row : tie.Need-overflow-add-in-row invariant-loop decreases-loop
+add-in-row : tie.Need-overflow_add-start invariant-loop decreases-loop
 add-in-row c = let e = ends c in
     search rules
 
-sub-in-row : tie.Need-overflow-sub-in-row invariant-loop decreases-loop
+sub-in-row : tie.Need-slice_bounds-in_row-count invariant-loop decreases-loop
 sub-in-row c = omega arith
 
-part-in-row-start : tie.Need-slice-bounds-in-row-start invariant-loop decreases-loop
+part-in-row-start : tie.Need-slice_bounds-in_row-start invariant-loop decreases-loop
 part-in-row-start c = let e = ends c in
     search rules
 
-part-in-row-end : tie.Need-slice-bounds-in-row-end invariant-loop decreases-loop
+part-in-row-end : tie.Need-slice_bounds-in_row-end invariant-loop decreases-loop
 part-in-row-end c = let e = ends c in
     search rules
 
-mul-in-row : tie.Need-overflow-mul-in-row invariant-loop decreases-loop
+mul-in-row : tie.Need-overflow_mul-row invariant-loop decreases-loop
 mul-in-row c = let t = c.before in
     omega (arith, positions t, have_few (start t).requires.3)
 
-in-row-requires : tie.Need-in-row-requires invariant-loop decreases-loop
+in-row-requires : tie.Need-in_row-count-requires invariant-loop decreases-loop
 unfolding whites_from
 in-row-requires c κs = let t = c.before in
     let s = start t in (
       refl,
-      s.pre.1,
-      row_length s.args.width s.args.mask.now (row t) t.loop-test.true s.pre.2,
-      have_fewer s.pre.3 (positions t),
+      s.requires.1,
+      row_length s.args.width s.args.mask.now (row t) t.loop-row-test.true s.requires.2,
+      have_fewer s.requires.3 (positions t),
     )
 
-add-count : tie.Need-overflow-add-count invariant-loop decreases-loop
+add-count : tie.Need-overflow_add-count invariant-loop decreases-loop
 add-count c = let t = turn c in
     let s = start t in
-    omega (arith, with_own c, counted_le (test s) ((row t + 1) * s.args.width), positions t, have_few s.pre.3)
+    omega (arith, with_own c, counted_le (test s) ((row t + 1) * s.args.width), positions t, have_few s.requires.3)
 
-add_row : tie.Need-overflow-add-row invariant-loop decreases-loop
+add_row : tie.Need-overflow_add-row invariant-loop decreases-loop
 add_row c = omega arith
 
-loop-less : tie.Need-loop-smaller invariant-loop decreases-loop
+loop-less : tie.Need-loop-row-smaller invariant-loop decreases-loop
 loop-less c = omega arith
 
-loop-again : tie.Need-loop-preserved invariant-loop decreases-loop
+loop-again : tie.Need-loop-row-preserved invariant-loop decreases-loop
 loop-again c = (omega arith, with_own c)
 
 returns : tie.Need-returns invariant-loop decreases-loop
 returns c = let s = c.before.before.before.before.before.before in
-    let last : c.before.loop.row ≡ s.args.height = omega arith in
-    let all : c.before.loop.row * s.args.width ≡ s.args.width * s.args.height =
+    let last : c.before.loop-row.row ≡ s.args.height = omega arith in
+    let all : c.before.loop-row.row * s.args.width ≡ s.args.width * s.args.height =
     ap (λ (n : ℕ). n * s.args.width) last ∙ mul_comm s.args.height s.args.width in
-    c.before.loop.invariant.1 ∙ ap (counted (test s)) all
+    c.before.loop-row.invariant.1 ∙ ap (counted (test s)) all
 
 pub changed_spec : {M : Type 1} → statement M
 changed_spec =

@@ -13,11 +13,11 @@ use Rattle.score.proofs.Runs.{have_fewer}
 use Rattle.score.proofs.under_mask.in_byte.Statement.{statement}
 use Rattle.score.proofs.under_mask.in_byte.Tie as tie
 
-abbrev invariant-loop : tie.invariant-loop
+abbrev invariant-loop : tie.invariant-loop-i
 invariant-loop first second whites byte columns at allowance maxval count₀ i₀ count i =
     (i ≤ columns) × (count ≡ count_from (black_bit byte) (moved_in allowance maxval first second) at i)
 
-abbrev decreases-loop : tie.decreases-loop
+abbrev decreases-loop : tie.decreases-loop-i
 decreases-loop first second whites byte columns at allowance maxval count₀ i₀ count i = columns - i
 
 -- which bits count
@@ -28,44 +28,44 @@ module _ (s : tie.Start invariant-loop decreases-loop) where
   abbrev test : ℕ → Bool
   test = unmasked (black_bit s.args.byte) moves
 
-in-eight-requires : tie.Need-in-eight-requires invariant-loop decreases-loop
+in-eight-requires : tie.Need-in_eight-requires invariant-loop decreases-loop
 in-eight-requires c κs = let s = c.before.before.before.before in
     (s.requires.0, have_fewer s.requires.2 (omega arith))
 
-returns : tie.Need-returns invariant-loop decreases-loop
-returns c = c.in-eight.ensures ∙ ap (counted (test c.before.before.before.before.before)) (sym c.before.if1.true)
+returns : tie.Need-returns-then-columns-eq8 invariant-loop decreases-loop
+returns c = c.in_eight.ensures ∙ ap (counted (test c.before.before.before.before.before)) (sym c.before.if-columns-eq8.true)
 
-loop-holds : tie.Need-loop-init invariant-loop decreases-loop
+loop-holds : tie.Need-loop-i-init invariant-loop decreases-loop
 loop-holds c = (omega arith, sym (counted_none (test c.before.before.before.before)))
 
-counts-requires : tie.Need-counts-requires invariant-loop decreases-loop
+counts-requires : tie.Need-counts-count-requires invariant-loop decreases-loop
 counts-requires c κs = (omega arith, have_fewer c.before.before.before.before.before.before.requires.2 (omega arith))
 
 -- the count with this bit's own
-module _ (c : tie.After-counts invariant-loop decreases-loop) where
-  abbrev turn : tie.At-loop invariant-loop decreases-loop
+module _ (c : tie.After-counts-count invariant-loop decreases-loop) where
+  abbrev turn : tie.At-loop-i invariant-loop decreases-loop
   turn = c.before.before
 
-  with_bit_lem : turn.loop.count + c.counts.result ≡ counted (test turn.before.before.before.before.before) (turn.loop.i + 1)
-  with_bit_lem = counted_next (test turn.before.before.before.before.before) turn.loop.i turn.loop.inv.1 c.counts.ensures
+  with_bit_lem : turn.loop-i.count + c.counts-count.result ≡ counted (test turn.before.before.before.before.before) (turn.loop-i.i + 1)
+  with_bit_lem = counted_next (test turn.before.before.before.before.before) turn.loop-i.i turn.loop-i.invariant.1 c.counts-count.ensures
 
-add-count : tie.Need-overflow-add-count invariant-loop decreases-loop
-add-count c = omega (arith, with_bit_lem c, counted_le (test (turn c).before.before.before.before.before) ((turn c).loop.i + 1))
+add-count : tie.Need-overflow_add-count invariant-loop decreases-loop
+add-count c = omega (arith, with_bit_lem c, counted_le (test (turn c).before.before.before.before.before) ((turn c).loop-i.i + 1))
 
-add-i : tie.Need-overflow-add-i invariant-loop decreases-loop
+add-i : tie.Need-overflow_add-i invariant-loop decreases-loop
 add-i c = omega arith
 
-loop-less : tie.Need-loop-smaller invariant-loop decreases-loop
+loop-less : tie.Need-loop-i-smaller invariant-loop decreases-loop
 loop-less c = omega arith
 
-loop-again : tie.Need-loop-preserved invariant-loop decreases-loop
+loop-again : tie.Need-loop-i-preserved invariant-loop decreases-loop
 loop-again c = (omega arith, with_bit_lem c)
 
-returns-2 : tie.Need-returns-2 invariant-loop decreases-loop
+returns-2 : tie.Need-returns invariant-loop decreases-loop
 returns-2 c = let t = c.before in
     let s = t.before.before.before.before.before in
-    let all : t.loop.i ≡ s.args.columns = omega arith in
-    t.loop.invariant.1 ∙ ap (counted (test s)) all
+    let all : t.loop-i.i ≡ s.args.columns = omega arith in
+    t.loop-i.invariant.1 ∙ ap (counted (test s)) all
 
 pub in_byte_spec : {M : Type 1} → statement M
 in_byte_spec =

@@ -12,42 +12,42 @@ use Rattle.score.proofs.Runs.{bytes_had}
 use Rattle.score.proofs.under_mask.in_eight.Statement.{statement}
 use Rattle.score.proofs.under_mask.in_eight.Tie as tie
 
-byte-threshold-requires : tie.Need-byte-threshold-requires
+byte-threshold-requires : tie.Need-byte_threshold-threshold-requires
 byte-threshold-requires c κs = search rules
 
-under-byte-requires : tie.Need-under-byte-requires
+under-byte-requires : tie.Need-under_byte-requires
 under-byte-requires c κs = let s = c.before.before.before.before.before in
-    let has = bytes_had s.requires.1 (pixel_bytes_one s.args.maxval c.before.if1.true) in
+    let has = bytes_had s.requires.1 (pixel_bytes_one s.args.maxval c.before.if-maxval-le-BYTE_MOST.true) in
     (s.requires.0, omega (arith, has.0), omega (arith, has.1), s.requires.1.few)
 
-returns : tie.Need-returns
+returns : tie.Need-returns-then-maxval-le-BYTE_MOST
 returns c = let e = c.before.before in
     let a = e.before.before.before.before.args in
-    c.under-byte.ensures
-    ∙ ap (λ (t : ℕ). count_from (black_bit a.byte) (far_at 1 t a.first.now a.second.now) a.at 8) c.before.byte-threshold.ensures
+    c.under_byte.ensures
+    ∙ ap (λ (t : ℕ). count_from (black_bit a.byte) (far_at 1 t a.first.now a.second.now) a.at 8) c.before.byte_threshold-threshold.ensures
     ∙ far_moved (black_bit a.byte) a.allowance a.maxval a.first.now a.second.now a.at 8
-    (pixel_bytes_one a.maxval e.if1.true)
+    (pixel_bytes_one a.maxval e.if-maxval-le-BYTE_MOST.true)
 
-threshold-requires : tie.Need-threshold-requires
+threshold-requires : tie.Need-threshold-threshold-requires
 threshold-requires c κs = search rules
 
-cast-threshold : tie.Need-overflow-cast-threshold
+cast-threshold : tie.Need-overflow_cast-threshold
 cast-threshold c = let s = c.before.before.before.before.before in
     let byte : s.args.allowance ≤ 255 = omega arith in
-    omega (arith, c.threshold.ensures, threshold_most s.args.allowance s.args.maxval byte, s.requires.1.maxval_most)
+    omega (arith, c.threshold-threshold.ensures, threshold_most s.args.allowance s.args.maxval byte, s.requires.1.maxval_most)
 
-under-byte-requires-2 : tie.Need-under-byte-requires-2
+under-byte-requires-2 : tie.Need-under_byte-requires-2
 under-byte-requires-2 c κs = let s = c.before.before.before.before.before in
-    let has = bytes_had s.requires.1 (pixel_bytes_two s.args.maxval c.before.if1.false) in
+    let has = bytes_had s.requires.1 (pixel_bytes_two s.args.maxval c.before.if-maxval-le-BYTE_MOST.false) in
     (s.requires.0, has.0, has.1, s.requires.1.few)
 
-returns-2 : tie.Need-returns-2
+returns-2 : tie.Need-returns
 returns-2 c = let e = c.before.before in
     let a = e.before.before.before.before.args in
-    c.under-byte2.ensures
-    ∙ ap (λ (t : ℕ). count_from (black_bit a.byte) (far_at 2 t a.first.now a.second.now) a.at 8) c.before.threshold.ensures
+    c.under_byte-2.ensures
+    ∙ ap (λ (t : ℕ). count_from (black_bit a.byte) (far_at 2 t a.first.now a.second.now) a.at 8) c.before.threshold-threshold.ensures
     ∙ far_moved (black_bit a.byte) a.allowance a.maxval a.first.now a.second.now a.at 8
-    (pixel_bytes_two a.maxval e.if1.false)
+    (pixel_bytes_two a.maxval e.if-maxval-le-BYTE_MOST.false)
 
 pub in_eight_spec : {M : Type 1} → statement M
 in_eight_spec =

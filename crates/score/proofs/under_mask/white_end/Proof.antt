@@ -8,34 +8,34 @@ use Rattle.score.proofs.BlackBits.{white_more}
 use Rattle.score.proofs.under_mask.white_end.Statement.{statement}
 use Rattle.score.proofs.under_mask.white_end.Tie as tie
 
-abbrev invariant-loop : tie.invariant-loop
+abbrev invariant-loop : tie.invariant-loop-at
 invariant-loop row from at₀ at = (from ≤ at) × (at ≤ length row) × WhiteBytes row from at
 
-abbrev decreases-loop : tie.decreases-loop
+abbrev decreases-loop : tie.decreases-loop-at
 decreases-loop row from at₀ at = length row - at
 
-loop-holds : tie.Need-loop-init invariant-loop decreases-loop
+loop-holds : tie.Need-loop-at-init invariant-loop decreases-loop
 loop-holds c = (omega arith, c.requires, λ byte low high. absurd (omega arith))
 
-shared-slice-read-if1 : tie.Need-shared-slice-read-if1 invariant-loop decreases-loop
+shared-slice-read-if1 : tie.Need-bounds-row-at invariant-loop decreases-loop
 shared-slice-read-if1 c = omega arith
 
-returns : tie.Need-returns invariant-loop decreases-loop
-returns c = c.before.before.before.loop.invariant
+returns : tie.Need-returns-then-row-at-ne-WHITE invariant-loop decreases-loop
+returns c = c.before.before.before.loop-at.invariant
 
-add_at : tie.Need-overflow-add-at invariant-loop decreases-loop
+add_at : tie.Need-overflow_add-at invariant-loop decreases-loop
 add_at c = omega arith
 
-loop-less : tie.Need-loop-smaller invariant-loop decreases-loop
+loop-less : tie.Need-loop-at-smaller invariant-loop decreases-loop
 loop-less c = omega arith
 
-loop-again : tie.Need-loop-preserved invariant-loop decreases-loop
+loop-again : tie.Need-loop-at-preserved invariant-loop decreases-loop
 loop-again c = let t = c.before.before.before in
     let a = t.before.args in
-    (omega arith, omega arith, white_more a.row.now a.from t.loop.at t.loop.invariant.2 c.if1.false)
+    (omega arith, omega arith, white_more a.row.now a.from t.loop-at.at t.loop-at.invariant.2 c.if-row-at-ne-WHITE.false)
 
-returns-2 : tie.Need-returns-2 invariant-loop decreases-loop
-returns-2 c = c.before.loop.invariant
+returns-2 : tie.Need-returns invariant-loop decreases-loop
+returns-2 c = c.before.loop-at.invariant
 
 pub white_end_spec : {M : Type 1} → statement M
 white_end_spec =
