@@ -1,8 +1,8 @@
 -- The one statement of the table (promise W.1): in every row the definitions that the contracts cite answer what was worked by hand.
 -- Assumes nothing.
-use mathlib.Core.List.{List, map}
+use mathlib.Core.List.{map}
 use mathlib.Core.Path.{◌≡◌, refl}
-use Rattle.refusals.specs.Call.{refusal_of, result_of, left_of}
+use Rattle.refusals.specs.Call.{result_of, left_of}
 use Rattle.bits.specs.Row.{digits, number, bits, packed}
 use Rattle.ring.specs.Slot.{ring_bytes, field, written, cleared}
 use Rattle.ring.specs.Newest.{slot_before, newest, sum_newest}

@@ -11,7 +11,7 @@ use Rattle.demands.specs.History.{true_total}
 use Rattle.demands.specs.TrendMeans.{true_trend}
 use Rattle.cases.specs.History.{Start, L◌n◌D◌lent◌, History, start_of, start_over, State, state_of, state_over}
 use Rattle.cases.specs.Question.{Question, shape, opening, state, adding, total, truly, how_far, verdict, trend, truly_trend, ◌over◌}
-use Rattle.cases.specs.Question.{Answer, c◌s◌z◌b◌b◌, opens, R◌p◌kept◌head◌ring◌, figure, true, window, told, signed, truly_signed, refused}
+use Rattle.cases.specs.Question.{Answer, c◌s◌z◌b◌B◌, opens, R◌p◌kept◌head◌ring◌, figure, true, window, told, signed, truly_signed, refused}
 
 abbrev shape_answer : Start → Answer
 shape_answer (L bound n length D tolerance lent bytes) =

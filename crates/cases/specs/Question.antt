@@ -26,11 +26,11 @@ pub data Question : Type 0 where
   -- the same question, but the call is lent another ring
   ◌over◌ : Question → (another : List ℕ) → Question
 
-infix 20 c◌s◌z◌b◌b◌
+infix 20 c◌s◌z◌b◌B◌
 infix 20 R◌p◌kept◌head◌ring◌
 pub data Answer : Type 0 where
   -- the shape: block length, slots, largest quotient, field width, ring bytes
-  c◌s◌z◌b◌b◌ : ℕ → ℕ → ℕ → ℕ → ℕ → Answer
+  c◌s◌z◌b◌B◌ : ℕ → ℕ → ℕ → ℕ → ℕ → Answer
   opens : Answer
   -- the record's carry, phase, kept and head, and every byte of the ring
   R◌p◌kept◌head◌ring◌ : ℕ → ℕ → ℕ → ℕ → List ℕ → Answer

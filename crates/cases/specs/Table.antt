@@ -3,7 +3,7 @@ use Rattle.std.specs.Prelude.{ℕ, List, [], ◌∷◌}
 use Rattle.book.specs.declared.verdicts.Verdict.TheVariants.{Live, Frozen, Undecided}
 use Rattle.cases.specs.History.{L◌n◌D◌lent◌, History, opened, ◌then◌}
 use Rattle.cases.specs.Question.{Question, shape, opening, state, adding, total, truly, how_far, verdict, trend, truly_trend, ◌over◌}
-use Rattle.cases.specs.Question.{Answer, c◌s◌z◌b◌b◌, opens, R◌p◌kept◌head◌ring◌, figure, true, window, told, signed, truly_signed, refused, plus, minus}
+use Rattle.cases.specs.Question.{Answer, c◌s◌z◌b◌B◌, opens, R◌p◌kept◌head◌ring◌, figure, true, window, told, signed, truly_signed, refused, plus, minus}
 use Rattle.cases.specs.Answering.{answer_to}
 
 infix 10 ◌asks◌gives◌

@@ -17,7 +17,7 @@ pub(crate) struct Judged {
     pub(crate) bytes: u64,
 }
 
-// The book's own judgement is that of a total of no items: 8, then 4. The numbers of the coarser book are asked for only once typeof.m.D is known to be
+// The book's own judgement is that of a total of no items: 8, then 4. The numbers of the coarser book are asked for only once m·D is known to be
 // small, and are refused with 3 alone.
 pub(crate) fn coarser(book: Book, ring: &[u8], times: u64, second: u64, row: u64) -> Judged
     ensures { Asked book (length ring.now) times second row result }

@@ -1,4 +1,4 @@
-// Making a live book coarser where room runs short: from a book whose tolerance D is a multiple of its bound, one with tolerance typeof.m.D in a second
+// Making a live book coarser where room runs short: from a book whose tolerance D is a multiple of its bound, one with tolerance m·D in a second
 // lent ring, which goes on where the old one stood. What the calls give and leave is defined in specs/Calls.antt.
 
 #![tactic(auto)]

@@ -4,16 +4,14 @@
 use Prim.Native.Nat.{ℕ, ◌≤◌}
 use native.Mathlib.Omega.{arith}
 use mathlib.Core.List.{List}
-use mathlib.Core.Path.{◌≡◌, sym, ap, ◌∙◌}
-use Rattle.refusals.specs.Call.{result_of}
+use mathlib.Core.Path.{◌≡◌, ap}
 use Rattle.book.specs.declared.Book.{Book}
 use Rattle.book.specs.declared.Figure.{Figure}
 use Rattle.book.specs.Record.{held_in}
 use Rattle.book.specs.Figure.{figure}
-use Rattle.book.specs.Calls.{total_call}
 use Rattle.book.proofs.Promises.{total_taken, total_gives}
 use Rattle.demands.specs.History.{Good, true_total}
-use Rattle.demands.specs.Demand2.{Bounds, TotalGiven, Demand2}
+use Rattle.demands.specs.Demand2.{Bounds, Demand2}
 use Rattle.demands.proofs.FigureBounds.{figure_bounds}
 use Rattle.demands.proofs.GoodUsable.{good_invariant, good_usable}
 

@@ -3,18 +3,16 @@
 use Prim.Native.Nat.{ℕ, zero, suc, ◌+◌, ◌-◌, ◌≤◌, ◌<◌}
 use native.Mathlib.Omega.{arith}
 use mathlib.Core.List.{List}
-use mathlib.Core.Logic.{◌⊎◌, inl, inr, ◌↔◌}
-use mathlib.Core.Path.{◌≡◌, refl, sym, ap, ◌∙◌}
+use mathlib.Core.Logic.{◌⊎◌, inl, inr}
+use mathlib.Core.Path.{◌≡◌, sym, ap, ◌∙◌}
 use lib.ListN.{length}
 use Rattle.refusals.specs.Numbers.{not_reached}
-use Rattle.refusals.specs.Call.{result_of}
 use Rattle.book.specs.declared.Book.{Book}
 use Rattle.book.specs.declared.Window.{Window}
 use Rattle.book.specs.Sound.{Usable}
 use Rattle.book.specs.Figure.{figure}
 use Rattle.book.specs.HowFar.{Smallest, NoWindow, Found}
-use Rattle.book.specs.Calls.{how_far_call}
-use Rattle.book.proofs.Promises.{smallest_or_none, smallest_is_named, none_is_9, smallest_unique}
+use Rattle.book.proofs.Promises.{smallest_or_none, smallest_is_named, none_is_9}
 use Rattle.demands.specs.History.{Good, sum_of, true_total}
 use Rattle.demands.specs.Demand3.{Names, SaysNotReached, Named, SomeNamed, NotReached, Exact, Demand3}
 use Rattle.demands.proofs.GoodUsable.{good_usable}

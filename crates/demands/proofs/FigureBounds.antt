@@ -5,11 +5,10 @@ use native.Mathlib.Nat.{suc-mul, div-add-mod, mod-lt}
 use native.Mathlib.Omega.{arith}
 use mathlib.Core.List.{List}
 use mathlib.Core.Logic.{◌⊎◌, inl, inr}
-use mathlib.Core.Path.{◌≡◌, refl, sym, ap, ◌∙◌}
+use mathlib.Core.Path.{◌≡◌, refl, ap}
 use Rattle.ring.specs.Newest.{newest, sum_newest}
 use Rattle.book.specs.declared.Book.{Book}
 use Rattle.book.specs.Record.{block_of, slots_of}
-use Rattle.book.specs.Sound.{Sound}
 use Rattle.book.specs.Figure.{slots_for, figure_of}
 use Rattle.book.proofs.Promises.{le_or_lt, block_holds, for_low, for_covers, for_tight, figure_in_open_lem, figure_in_slots_lem}
 use Rattle.demands.specs.History.{true_total}

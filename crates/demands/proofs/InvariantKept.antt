@@ -1,7 +1,7 @@
 -- Opening begins with the invariant, and adding keeps it; and another mark changes nothing in it.
 -- Assumes nothing.
-use Prim.Native.Nat.{ℕ, zero, suc, ◌+◌, ◌-◌, ◌*◌, ◌/◌, ◌%◌, ◌≤◌, ◌<◌, ◌^◌, min}
-use native.Mathlib.Nat.{suc-mul, suc-add, div-add-mod, mod-lt, mul_comm, add-mul-div_left, zero-div, mul-le-mul_right}
+use Prim.Native.Nat.{ℕ, zero, suc, ◌+◌, ◌-◌, ◌*◌, ◌/◌, ◌≤◌, ◌<◌, ◌^◌, min}
+use native.Mathlib.Nat.{suc-mul, div-add-mod, add-mul-div_left, zero-div, mul-le-mul_right}
 use native.Mathlib.Numerals.{add-one}
 use native.Mathlib.Omega.{arith}
 use mathlib.Core.List.{List, [], ◌∷◌}
@@ -14,7 +14,7 @@ use Rattle.ring.proofs.Promises.{read_back, other_stays, newest_none, newest_mor
 use Rattle.book.specs.declared.Book.{Book}
 use Rattle.book.specs.Resting.{marked}
 use Rattle.book.specs.Record.{block_of, slots_of, width_of, held_in, opened}
-use Rattle.book.specs.Sound.{Ranges, Sound, Usable}
+use Rattle.book.specs.Sound.{Ranges, Usable}
 use Rattle.book.specs.Adding.{carry_with, quotient_of, slot_after, added_open, added_closed, added, added_ring}
 use Rattle.book.proofs.Promises.{le_or_lt, slots_cover, book_lent, adding_cases, quotient_in, before_after, opened_sound, open_sound, closed_sound, closed_carry, marked_sound}
 use Rattle.demands.specs.History.{sum_of, true_total}

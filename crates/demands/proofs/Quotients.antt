@@ -10,7 +10,7 @@ use Rattle.ring.specs.Calls.{write_call}
 use Rattle.ring.proofs.Promises.{write_taken}
 use Rattle.book.specs.declared.Book.{Book}
 use Rattle.book.specs.Record.{block_of, slots_of, largest_of, width_of}
-use Rattle.book.specs.Sound.{Sound, Usable}
+use Rattle.book.specs.Sound.{Usable}
 use Rattle.book.specs.Adding.{quotient_of}
 use Rattle.book.specs.Figure.{slots_for}
 use Rattle.book.specs.Calls.{add_call}

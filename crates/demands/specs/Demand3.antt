@@ -3,7 +3,6 @@ use Rattle.std.specs.Prelude.{ℕ, ◌+◌, ◌-◌, ◌≤◌, ◌<◌, List, �
 use Rattle.refusals.specs.Numbers.{not_reached}
 use Rattle.refusals.specs.Call.{result_of}
 use Rattle.book.specs.declared.Book.{Book}
-use Rattle.book.specs.declared.Window.{Window}
 use Rattle.book.specs.Figure.{figure}
 use Rattle.book.specs.HowFar.{Smallest, NoWindow}
 use Rattle.book.specs.Calls.{how_far_call}

@@ -195,7 +195,7 @@ module _ (kind : Kind) where
         split = ap bytes_of f.split ∙ bytes_append f.first (f.seen ∷ f.rest);
         begun = goes_begun f.first (goes_loose f.first f.comes);
         nothing_over = goes_nothing_over f.first f.comes;
-        not_begun_lem = λ b. stopped_apart wrong_byte ends_too_early (λ e. omega arith) (sym stops ∙ begun_waits (f.first ++ (f.seen ∷ [])) (rw bytes_are b));
+        not_begun = λ b. stopped_apart wrong_byte ends_too_early (λ e. omega arith) (sym stops ∙ begun_waits (f.first ++ (f.seen ∷ [])) (rw bytes_are b));
         not_complete = λ c. stopped_not_found (sym stops ∙ (complete_walks ends_too_early (f.first ++ (f.seen ∷ [])) (rw bytes_are c)).2);
       }
 
@@ -212,24 +212,24 @@ module _ (kind : Kind) where
 
     either_with : GoesOrEnds (onward (loosened place) seen.byte) → (Begun kind (bytes_of (first ++ (seen ∷ []))) → ⊥)
         → (Complete kind (bytes_of (first ++ (seen ∷ []))) → ⊥) → ⊥
-    either_with (going next e) not_begun_lem not_complete = not_begun_lem (goes_with e)
-    either_with (ending numbers e) not_begun_lem not_complete = not_complete (ends_with e)
+    either_with (going next e) not_begun not_complete = not_begun (goes_with e)
+    either_with (ending numbers e) not_begun not_complete = not_complete (ends_with e)
 
     -- where it neither has begun nor is whole with it, the byte is wrong
     wrong_with : (Begun kind (bytes_of (first ++ (seen ∷ []))) → ⊥) → (Complete kind (bytes_of (first ++ (seen ∷ []))) → ⊥)
         → onward place seen.byte ≡ fails wrong_byte
-    wrong_with not_begun_lem not_complete = by (onward place seen.byte) refl
+    wrong_with not_begun not_complete = by (onward place seen.byte) refl
       where
         loosely : (o : Onward) → onward place seen.byte ≡ o → (o ≡ fails number_out_of_range → ⊥) → onward (loosened place) seen.byte ≡ loosened_on o
         loosely o is in_range = onward_loosened place seen.byte (λ f. in_range (sym is ∙ f)) ∙ ap loosened_on is
 
         failing_with : (k : ℕ) → onward place seen.byte ≡ fails k → (k ≡ wrong_byte) ⊎ (k ≡ number_out_of_range) → fails k ≡ fails wrong_byte
         failing_with k is (inl e) = ap fails e
-        failing_with k is (inr e) = absurd (either_with (out_of_range_loosened place seen.byte (is ∙ ap fails e)) not_begun_lem not_complete)
+        failing_with k is (inr e) = absurd (either_with (out_of_range_loosened place seen.byte (is ∙ ap fails e)) not_begun not_complete)
 
         by : (o : Onward) → onward place seen.byte ≡ o → o ≡ fails wrong_byte
         by (goes next) is =
-            absurd (not_begun_lem (goes_with (loosely (goes next) is (λ e. (let z : ◌≡◌ {A = ℕ} 0 1 = cc in omega arith)))))
+            absurd (not_begun (goes_with (loosely (goes next) is (λ e. (let z : ◌≡◌ {A = ℕ} 0 1 = cc in omega arith)))))
         by (ends numbers) is =
             absurd (not_complete (ends_with (loosely (ends numbers) is (λ e. (let z : ◌≡◌ {A = ℕ} 0 1 = cc in omega arith)))))
         by (fails k) is = failing_with k is (onward_fails place seen.byte is)
@@ -249,7 +249,7 @@ module _ (kind : Kind) where
           let bytes_are : bytes_of (first ++ (seen ∷ [])) ≡ w.first ++ (w.byte ∷ []) = bytes_append first (seen ∷ []) ∙ λ i. first_is i ++ (byte_is i ∷ []) in
           walk_on end beginning first (seen ∷ second) s.comes
           ∙ ap (carried seen second (λ next. walk end next second))
-          (wrong_with first seen s.comes (λ b. w.not_begun_lem (rw (← bytes_are) b)) (λ c. w.not_complete (rw (← bytes_are) c)))
+          (wrong_with first seen s.comes (λ b. w.not_begun (rw (← bytes_are) b)) (λ c. w.not_complete (rw (← bytes_are) c)))
 
   runs_out_stops : (end : ℕ) (l : List Seen) → RunsOut kind (bytes_of l) → walk end beginning l ≡ stopped end
   unfolding walk

@@ -46,7 +46,7 @@ pub record WrongByte (kind : Kind) (bytes : List ℕ) : Type 0 where
   pub split : bytes ≡ first ++ (byte ∷ rest)
   pub begun : Begun kind first
   pub nothing_over : NothingOver kind first
-  pub not_begun_lem : Begun kind (first ++ (byte ∷ [])) → ⊥
+  pub not_begun : Begun kind (first ++ (byte ∷ [])) → ⊥
   pub not_complete : Complete kind (first ++ (byte ∷ [])) → ⊥
 
 -- the bytes run out while a header may still come

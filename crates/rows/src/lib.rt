@@ -18,14 +18,14 @@ pub const LINE_MOST: usize = 96;
 
 // The bytes that a line took, or a refusal with 0 bytes.
 #[repr(C)]
-#[derive(Drop)]
+#[derive(Clone, Copy)]
 pub struct Wrote {
     pub refusal: u8,
     pub length: usize,
 }
 
 // What a row says of the page: a verdict, or that it is too early for one.
-#[derive(Drop)]
+#[derive(Clone, Copy)]
 pub enum Word {
     Early,
     Live,
@@ -35,7 +35,7 @@ pub enum Word {
 }
 
 // The score against the frame before; the first frame has none.
-#[derive(Drop)]
+#[derive(Clone, Copy)]
 pub enum Scored {
     First,
     By(u64),

@@ -1,5 +1,6 @@
--- What the two exported calls for zones share: each hands all that it is given on to a function with the same contract, unopened, and gives back
--- what that leaves. So no clause is read here; of the result it is seen only that it fits a local of its type.
+-- What a walk by hand of a function needs, as of the two exported calls for zones, that hands all that it is given on to a function with the same
+-- contract, unopened, and gives back what that leaves. So no clause is read here; of the result it is seen only that it fits a local of its type.
+-- The proofs of the two calls need none of it.
 -- Assumes nothing.
 use mathlib.Core.List.{[], ◌∷◌, List}
 use seplogic.Ra.Ura.{Ura}

@@ -39,37 +39,37 @@ used_there : {n : Numbers} (bytes : List ℕ) → n ≡ numbers_of bytes → n.u
 used_there bytes e = rw e (reading_lies bytes).there
 
 -- once the lent bytes are known
-abbrev start : tie.After-shared-slice-known2 → tie.Start
+abbrev start : tie.After-shared_slice_known-2-1 → tie.Start
 start c = c.before.before.before
 
-returns : tie.Need-returns
+returns : tie.Need-returns-then-over
 returns c = let s = start c.before.before in
-    comes_to (refl, refl) (none_over (state s) (ring s) (last s) (rest s) (over s) c.before.if1.true c.if2.true)
+    comes_to (refl, refl) (none_over (state s) (ring s) (last s) (rest s) (over s) c.before.if-rest-eq0.true c.if-over.true)
 
-returns-2 : tie.Need-returns-2
+returns-2 : tie.Need-returns-then-rest-eq0
 returns-2 c = let s = start c.before.before in
-    comes_to (refl, refl) (none_yet (state s) (ring s) (last s) (rest s) (over s) c.before.if1.true c.if2.false)
+    comes_to (refl, refl) (none_yet (state s) (ring s) (last s) (rest s) (over s) c.before.if-rest-eq0.true c.if-over.false)
 
-header-requires : tie.Need-header-requires
+header-requires : tie.Need-header-numbers-requires
 header-requires c κs = search rules
 
-short-yet-requires : tie.Need-short-yet-requires
+short-yet-requires : tie.Need-short_yet-requires
 short-yet-requires c κs = search rules
 
-returns-3 : tie.Need-returns-3
+returns-3 : tie.Need-returns-then-short_yet
 returns-3 c = let asked = c.before in
     let read = asked.before in
     let s = start read.before.before in
     comes_to (refl, refl)
-    (short_waits (state s) (ring s) (last s) (rest s) (over s) read.before.if1.false read.header.ensures
-    (sym asked.short-yet.ensures ∙ c.if3.true))
+    (short_waits (state s) (ring s) (last s) (rest s) (over s) read.before.if-rest-eq0.false read.header-numbers.ensures
+    (sym asked.short_yet.ensures ∙ c.if-short_yet.true))
 
 -- once the turn does not wait
-module _ (c : tie.After-struct-known) where
-  abbrev asked : tie.After-short-yet
+module _ (c : tie.After-struct_known-1) where
+  abbrev asked : tie.After-short_yet
   asked = c.before.before
 
-  abbrev read : tie.After-header
+  abbrev read : tie.After-header-numbers
   read = asked.before
 
   abbrev here : tie.Start
@@ -82,51 +82,51 @@ module _ (c : tie.After-struct-known) where
       → ComesTo turn bytes (outcome_of (state here) (ring here) (last here) (rest here) (over here))
   told came =
       comes_to came
-      (decides (state here) (ring here) (last here) (rest here) (over here) read.before.if1.left read.header.ensures
-      (sym asked.short-yet.ensures ∙ c.before.if3.false))
+      (decides (state here) (ring here) (last here) (rest here) (over here) read.before.if-rest-eq0.false read.header-numbers.ensures
+      (sym asked.short_yet.ensures ∙ c.before.if-short_yet.false))
 
-returns-4 : tie.Need-returns-4
+returns-4 : tie.Need-returns-then-numbers-ne0
 returns-4 c = let p = c.before in
     let s = here p in
-    told p (comes_to (refl, refl) (decided_refused (state s) (ring s) (last s) (rest s) (read p).header.ensures c.if4.true))
+    told p (comes_to (refl, refl) (decided_refused (state s) (ring s) (last s) (rest s) (read p).header-numbers.ensures c.if-numbers-ne0.true))
 
 shown-requires : tie.Need-shown-requires
 shown-requires c κs = search rules
 
-same_length : tie.Need-same-length
+same_length : tie.Need-shape_of-ring-then-state-eq0
 same_length c = search rules
 
-returns-5 : tie.Need-returns-5
-returns-5 c = let first = c.before.before in
+returns-5 : tie.Need-returns-then-state-eq0
+returns-5 c = let first = c.before in
     let taken = first.before.before in
     let p = taken.before in
     let s = here p in
     told p
     (comes_to (c.shown.ensures, refl)
-    (decided_first (state s) (ring s) (last s) (rest s) (read p).header.ensures taken.if4.false first.if5.true))
+    (decided_first (state s) (ring s) (last s) (rest s) (read p).header-numbers.ensures taken.if-numbers-ne0.false first.if-state-eq0.true))
 
 -- where the frame is not the first
-abbrev taken : tie.Else5 → tie.Else4
+abbrev taken : tie.Else-state-eq0 → tie.Else-numbers-ne0
 taken c = c.before.before
 
-slice-aggregate-counted : tie.Need-slice-aggregate-counted
-slice-aggregate-counted c = let p = (taken c.before.before).before in
-    sym (length-take-le (read p).header.result.used (rest (here p)) (used_there (rest (here p)) (read p).header.ensures))
+slice-aggregate-counted : tie.Need-slice_bounds-counted-end
+slice-aggregate-counted c = let p = (taken c.before).before in
+    sym (length-take-le (read p).header-numbers.result.used (rest (here p)) (used_there (rest (here p)) (read p).header-numbers.ensures))
 
 counted-requires : tie.Need-counted-requires
 counted-requires c κs = search rules
 
-same-length-2 : tie.Need-same-length-2
+same-length-2 : tie.Need-shape_of-ring
 same-length-2 c = search rules
 
-returns-6 : tie.Need-returns-6
+returns-6 : tie.Need-returns
 returns-6 c = let counted = c.before.before in
-    let later = counted.before.before.before in
+    let later = counted.before.before in
     let p = (taken later).before in
     let s = here p in
     told p
     (comes_to counted.counted.ensures
-    (decided_counted (state s) (ring s) (last s) (rest s) (read p).header.ensures (taken later).if4.false later.if5.false))
+    (decided_counted (state s) (ring s) (last s) (rest s) (read p).header-numbers.ensures (taken later).if-numbers-ne0.false later.if-state-eq0.false))
 
 pub decide_spec : {M : Type 1} → statement M
 decide_spec =

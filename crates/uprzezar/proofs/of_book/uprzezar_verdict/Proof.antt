@@ -9,11 +9,11 @@ use Rattle.uprzezar.proofs.of_book.uprzezar_verdict.Tie as tie
 verdict-requires : tie.Need-verdict-requires
 verdict-requires c κs = search rules
 
-as-numbers-requires : tie.Need-as-numbers-requires
+as-numbers-requires : tie.Need-as_numbers-requires
 as-numbers-requires c κs = search rules
 
 returns : tie.Need-returns
-returns c = c.as-numbers.ensures ∙ ap as_numbers c.before.verdict.ensures
+returns c = c.as_numbers.ensures ∙ ap as_numbers c.before.verdict.ensures
 
 pub uprzezar_verdict_spec : {M : Type 1} → statement M
 uprzezar_verdict_spec = tie.close (tie.spec verdict-requires as-numbers-requires returns)

@@ -4,11 +4,11 @@ use borrow.Author.Rules.{rules}
 use Rattle.watch.proofs.turns.short_yet.Statement.{statement}
 use Rattle.watch.proofs.turns.short_yet.Tie as tie
 
-returns : tie.Need-returns
+returns : tie.Need-returns-then-over
 returns c = search rules
 
-returns-2 : tie.Need-returns-2
-returns-2 c = rw c.if1.false
+returns-2 : tie.Need-returns
+returns-2 c = rw c.if-over.false
 
 pub short_yet_spec : {M : Type 1} → statement M
 short_yet_spec = tie.close (tie.spec returns returns-2)

@@ -8,31 +8,31 @@ use Rattle.watch.specs.Turn.{shown_of}
 use Rattle.watch.proofs.turns.shown.Statement.{statement}
 use Rattle.watch.proofs.turns.shown.Tie as tie
 
-total-requires : tie.Need-total-requires
+total-requires : tie.Need-total-total-requires
 total-requires c κs = search rules
 
-returns : tie.Need-returns
+returns : tie.Need-returns-then-total-ne0
 unfolding shown_of
 returns c = let told = c.before.before in
-    let n = told.total.result.refusal in
-    rw (sym told.total.ensures) (sym (refused_keeps n _ (Refused n) refl c.if1.true))
+    let n = told.total-total.result.refusal in
+    rw (sym told.total-total.ensures) (sym (refused_keeps n _ (Refused n) refl c.if-total-ne0.true))
 
 verdict-requires : tie.Need-verdict-requires
 verdict-requires c κs = search rules
 
-word-of-requires : tie.Need-word-of-requires
+word-of-requires : tie.Need-word_of-word-requires
 word-of-requires c κs = search rules
 
-one-more-requires : tie.Need-one-more-requires
+one-more-requires : tie.Need-one_more-requires
 one-more-requires c κs = search rules
 
-returns-2 : tie.Need-returns-2
+returns-2 : tie.Need-returns
 unfolding shown_of
 returns-2 c = let word = c.before in
     let ruled = word.before in
     let taken = ruled.before in
     let told = taken.before.before in
-    rw (sym told.total.ensures, taken.if1.false, c.one_more.ensures, word.word_of.ensures, ruled.verdict.ensures)
+    rw (sym told.total-total.ensures, taken.if-total-ne0.false, c.one_more.ensures, word.word_of-word.ensures, ruled.verdict.ensures)
 
 pub shown_spec : {M : Type 1} → statement M
 shown_spec =
