@@ -11,7 +11,7 @@ pub(crate) const BUFFER_BYTES: usize = 262144;
 const MOVE_AT: usize = 200000;
 
 // The state, where the image before starts, where the bytes at hand start, and where they end.
-#[derive(Drop)]
+#[derive(Clone, Copy)]
 pub(crate) struct Desk {
     pub(crate) state: State,
     pub(crate) from: usize,

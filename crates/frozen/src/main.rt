@@ -22,7 +22,7 @@ use watch::setting::RING_BYTES;
 const ROWS_BYTES: usize = 4096;
 
 // The desk to go on with, and whether no more bytes will come.
-#[derive(Drop)]
+#[derive(Clone, Copy)]
 struct Given {
     desk: Desk,
     over: bool,

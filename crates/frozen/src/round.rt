@@ -18,7 +18,7 @@ pub(crate) const DONE: u8 = 2;
 const TURNS: usize = 42;
 
 // The desk after some turns, how many bytes of rows wait to be written, and how to go on.
-#[derive(Drop)]
+#[derive(Clone, Copy)]
 pub(crate) struct Round {
     pub(crate) desk: Desk,
     pub(crate) full: usize,

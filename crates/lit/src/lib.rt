@@ -17,7 +17,7 @@ mod table;
 
 // A number, or a refusal with the number 0.
 #[repr(C)]
-#[derive(Drop)]
+#[derive(Clone, Copy)]
 pub struct Answer {
     pub refusal: u8,
     pub value: usize,

@@ -12,7 +12,7 @@ use crate::{judge, ones, table};
 const BLOCK: usize = 256;
 
 // How far a search has come: the bytes that it has passed, and the ones in them.
-#[derive(Drop)]
+#[derive(Clone, Copy)]
 struct Spot {
     at: usize,
     before: usize,

@@ -14,7 +14,7 @@ mod word;
 
 // A number, or a refusal with the number 0.
 #[repr(C)]
-#[derive(Drop)]
+#[derive(Clone, Copy)]
 pub struct Answer {
     pub refusal: u8,
     pub value: u64,

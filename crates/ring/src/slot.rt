@@ -7,7 +7,7 @@ ghost use Rattle.ring.specs.Newest.{sum_newest};
 use crate::{ones, word};
 
 // The bytes in which a slot lies: `count` of them from `first` on, and `after` bits behind the slot in the last one.
-#[derive(Drop)]
+#[derive(Clone, Copy)]
 struct Place {
     first: usize,
     count: usize,

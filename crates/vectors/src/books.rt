@@ -8,7 +8,7 @@ use book::verdicts::{Notice, Ruling, Verdict};
 use book::{Book, Ran, Updated};
 
 // What a shape is asked for and a book is opened with: `L n D`.
-#[derive(Drop)]
+#[derive(Clone, Copy)]
 pub(crate) struct Setting {
     pub ok: bool,
     pub bound: u64,
@@ -17,7 +17,7 @@ pub(crate) struct Setting {
 }
 
 // What the calls on a record are handed: `record ring`, then one or two numbers. The ring lies at the start of the lent slice.
-#[derive(Drop)]
+#[derive(Clone, Copy)]
 pub(crate) struct Asked {
     pub ok: bool,
     pub book: Book,

@@ -8,7 +8,7 @@ use book::Book;
 use coarse::Coarser;
 
 // What both calls are handed first: `record ring m ring2`. Each ring lies at the start of its lent slice.
-#[derive(Drop)]
+#[derive(Clone, Copy)]
 struct Asked {
     ok: bool,
     book: Book,

@@ -8,7 +8,7 @@ use crate::{
 use std::io::{Read, Write};
 
 // How many bytes of a line stand at the buffer's start, whether more of that line was dropped, and whether input may follow.
-#[derive(Drop)]
+#[derive(Clone, Copy)]
 struct State {
     have: usize,
     dropped: bool,

@@ -5,7 +5,7 @@ ghost use Rattle.std.specs.Prelude.{◌≤◌};
 use book::Book;
 
 // The refusal, the number of the zone that it is for, and the records.
-#[derive(Drop)]
+#[derive(Clone, Copy)]
 pub(crate) struct Done {
     pub refusal: u8,
     pub zone: u64,

@@ -7,7 +7,7 @@ use crate::text;
 use lit::Answer;
 
 // What the four calls on a row are handed: `bytes length`, then one or two numbers. The bytes lie at the start of the lent slice.
-#[derive(Drop)]
+#[derive(Clone, Copy)]
 struct Asked {
     ok: bool,
     bytes: usize,

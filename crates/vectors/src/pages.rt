@@ -7,7 +7,7 @@ use crate::text;
 use page::{Choice, Picture, Ticks};
 
 // The three ticks of a line, if each is one.
-#[derive(Drop)]
+#[derive(Clone, Copy)]
 struct ParsedTicks {
     ok: bool,
     ticks: Ticks,

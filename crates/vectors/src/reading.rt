@@ -6,42 +6,42 @@ use crate::fields::{count, field, part, place};
 use book::Book;
 
 // A number, if the text is one.
-#[derive(Drop)]
+#[derive(Clone, Copy)]
 pub(crate) struct Parsed {
     pub ok: bool,
     pub value: u64,
 }
 
 // A byte, if the text is a number below 256.
-#[derive(Drop)]
+#[derive(Clone, Copy)]
 pub(crate) struct ParsedByte {
     pub ok: bool,
     pub value: u8,
 }
 
 // A tick, if the text is a number below 2^32.
-#[derive(Drop)]
+#[derive(Clone, Copy)]
 pub(crate) struct ParsedTick {
     pub ok: bool,
     pub value: u32,
 }
 
 // How many bytes, or numbers of a row, were read, if the text is such that fit.
-#[derive(Drop)]
+#[derive(Clone, Copy)]
 pub(crate) struct Size {
     pub ok: bool,
     pub size: usize,
 }
 
 // A record, if the text is one.
-#[derive(Drop)]
+#[derive(Clone, Copy)]
 pub(crate) struct Entry {
     pub ok: bool,
     pub book: Book,
 }
 
 // How many records of zones were read, if the text is such that fit; they lie at the array's start.
-#[derive(Drop)]
+#[derive(Clone, Copy)]
 pub(crate) struct Entries {
     pub ok: bool,
     pub used: usize,

@@ -6,7 +6,7 @@ use crate::reading::{bytes_in, native, number_in, number_or_0};
 use crate::text;
 
 // What the four calls are handed: `width slots ring`, then no, one or two numbers. The ring lies at the start of the lent slice.
-#[derive(Drop)]
+#[derive(Clone, Copy)]
 struct Asked {
     ok: bool,
     width: usize,

@@ -8,7 +8,7 @@ use crate::text;
 use book::Book;
 
 // What the calls on a record are handed first: `record ring row`. Ring and row lie at the start of the lent slices.
-#[derive(Drop)]
+#[derive(Clone, Copy)]
 pub(crate) struct Asked {
     pub ok: bool,
     pub book: Book,
