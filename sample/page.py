@@ -5,7 +5,8 @@
     sample/frozen < frames.pgm > rows.csv
     python3 sample/page.py frames.pgm rows.csv > page.html
 
-Which picture is shown, its age and the verdict are answers of the proved library: the program `vectors` (rt run < /dev/null in crates/vectors builds it) is asked. Frame k
+Which picture is shown, its age and the verdict are answers of the proved library: the program `vectors` is asked, which rt run < /dev/null in
+crates/vectors builds. Frame k
 was taken at START + SECONDS·(k − 1) of a counter of seconds that goes on with 0 after 2^32 − 1. Where frames and rows do not fit together it
 ends with status 1 and no page: better an empty page than an old picture that passes for a new one.
 """
