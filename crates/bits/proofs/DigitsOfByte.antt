@@ -6,18 +6,33 @@ use native.Mathlib.Omega.{arith}
 use mathlib.Core.List.{List, [], ◌∷◌, ◌++◌}
 use mathlib.Core.Path.{◌≡◌, refl, sym, ap, ◌∙◌}
 use lib.ListN.{length, get_or, take, drop}
-use lib.Seq.{drop-append-add, drop-cons, drop-nil, take_at}
+use lib.Seq.{drop-append-add, drop-cons, drop-nil, take-add, take-nil, take_at, drop_at}
 use Rattle.bits.specs.Row.{digits, bits}
 use Rattle.bits.proofs.Digits.{length_digits}
 
 -- behind the first n bytes stand the bits behind the first n·8
-bits_drop : (n : ℕ) (row : List ℕ) → bits (drop n row) ≡ drop (n * 8) (bits row)
+pub bits_drop : (n : ℕ) (row : List ℕ) → bits (drop n row) ≡ drop (n * 8) (bits row)
 unfolding bits
 bits_drop zero row = refl
 bits_drop (suc n) [] = sym (drop-nil (suc n * 8))
 bits_drop (suc n) (x ∷ row) =
     let e : suc n * 8 ≡ length (digits 8 x) + n * 8 = rw (length_digits 8 x) (omega (arith, suc-mul n 8)) in
     bits_drop n row ∙ sym (ap (λ (k : ℕ). drop k (digits 8 x ++ bits row)) e ∙ drop-append-add (digits 8 x) (bits row) (n * 8))
+
+-- and the first n bytes have the first n·8 bits
+pub bits_take : (n : ℕ) (row : List ℕ) → bits (take n row) ≡ take (n * 8) (bits row)
+unfolding bits
+bits_take zero row = refl
+bits_take (suc n) [] = sym (take-nil (suc n * 8))
+bits_take (suc n) (x ∷ row) =
+    let e : suc n * 8 ≡ 8 + n * 8 = omega (arith, suc-mul n 8) in
+    rw (
+      e,
+      take-add 8 (n * 8) (digits 8 x ++ bits row),
+      take_at (digits 8 x) (bits row) 8 (length_digits 8 x),
+      drop_at (digits 8 x) (bits row) 8 (length_digits 8 x),
+      bits_take n row,
+    )
 
 -- the bits of one byte are its digits
 pub bits_of_byte : (row : List ℕ) (at : ℕ) → at < length row → take 8 (drop (at * 8) (bits row)) ≡ digits 8 (get_or row at 0)

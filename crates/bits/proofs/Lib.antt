@@ -9,4 +9,5 @@ pub mod Zeros
 pub mod DigitsOfByte
 pub mod OnesOfRow
 pub mod OnesOfPart
+pub mod CountingOnes
 pub mod Promises

@@ -1,20 +1,17 @@
 -- Parts of lists: a list cut in three, a part that lies in the middle, and a middle that is replaced.
 -- Assumes nothing.
 use Prim.Native.Nat.{ℕ, ◌+◌, ◌-◌, ◌<◌, ◌≤◌}
-use native.Mathlib.Decide.{dec_le}
 use native.Mathlib.Omega.{arith}
 use mathlib.Core.List.{List, ◌++◌, append_assoc}
 use mathlib.Core.Logic.{◌⊎◌, inl, inr}
 use mathlib.Core.Path.{◌≡◌, sym, ap, ◌∙◌}
 use lib.ListN.{length, get_or, take, drop, length-append, length-take, length-drop, take-append-drop, get_or-append}
+use Rattle.std.proofs.lemmas.Bool.{cases_lt}
 use lib.Seq.{take_at, drop_at, length-take-le, get_or-append-add, get_or-take, get_or-drop, ext_get_or}
 
+-- the library's cases_lt, with its two numbers and its two cases the other way round
 pub le_or_lt : (a b : ℕ) → (a ≤ b) ⊎ (b < a)
-le_or_lt a b = by (dec_le a b)
-  where
-    by : Dec (a ≤ b) → (a ≤ b) ⊎ (b < a)
-    by (yes h) = inl h
-    by (no h) = inr (omega arith)
+le_or_lt a b = elim (cases_lt b a) [ inl less ↦ inr less | inr not ↦ inl not ]
 
 -- a list is its first a entries, the n after them, and the rest
 pub in_three : (a n : ℕ) (l : List ℕ) → l ≡ take a l ++ (take n (drop a l) ++ drop n (drop a l))

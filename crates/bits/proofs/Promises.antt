@@ -49,6 +49,8 @@ pub use Rattle.bits.proofs.Through.{write_word}
 pub use Rattle.bits.proofs.BitOfByte.{bit_of_byte}
 -- the bits of a byte are its digits, and these one by one
 pub use Rattle.bits.proofs.DigitsOfByte.{bits_of_byte, digits_of_byte}
+-- the first n bytes have the first n·8 bits, and those behind them the bits behind
+pub use Rattle.bits.proofs.DigitsOfByte.{bits_take, bits_drop}
 -- ONES. No bits have no ones
 pub use Rattle.bits.proofs.OnesOfRow.{ones_none}
 -- a bit that is 0 adds none, one that is not 0 adds one
@@ -59,3 +61,9 @@ pub use Rattle.bits.proofs.OnesOfRow.{ones_append}
 pub use Rattle.bits.proofs.OnesOfRow.{ones_le}
 -- the number that a part writes has as many ones as the part has
 pub use Rattle.bits.proofs.OnesOfPart.{ones_of_part}
+-- THE BITS BETWEEN two places of a row of bytes: runs one behind the other have the ones of both
+pub use Rattle.bits.proofs.CountingOnes.{between_join}
+-- no more are ones than there are bits, and of no bits none
+pub use Rattle.bits.proofs.CountingOnes.{between_le, between_none}
+-- whole bytes have the ones between their first bit and their last
+pub use Rattle.bits.proofs.CountingOnes.{between_bytes}

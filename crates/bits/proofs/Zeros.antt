@@ -6,7 +6,7 @@ use native.Mathlib.Omega.{arith}
 use mathlib.Core.List.{List, [], ◌∷◌, ◌++◌}
 use mathlib.Core.Path.{◌≡◌, refl, sym, ap, ◌∙◌}
 use lib.Dec.{lit<}
-use lib.ListN.{length, get_or, take, drop, replicate, length-append, length-drop, length-replicate, get_or-replicate, replicate-append-replicate}
+use lib.ListN.{length, get_or, take, drop, replicate, length-append, length-drop, length-replicate, get_or-append, get_or-replicate, replicate-append-replicate}
 use lib.Pow.{pow_pos}
 use lib.Seq.{length-take-le, get_or-take, get_or-drop, ext_get_or}
 use Rattle.bits.specs.Row.{digits, number, bits, part_at}
@@ -16,9 +16,6 @@ use Rattle.bits.proofs.Rows.{length_bits, bits_append}
 -- n zeros
 abbrev pub zeros : ℕ → List ℕ
 zeros n = replicate n 0
-
-length_zeros : (n : ℕ) → length (zeros n) ≡ n
-length_zeros n = length-replicate n 0
 
 -- a row of zeros writes 0
 pub number_zeros : (n : ℕ) → number (zeros n) ≡ 0
@@ -42,9 +39,7 @@ bytes_zeros (suc n) rest h zero = lit< tt
 bytes_zeros (suc n) rest h (suc i) = bytes_zeros n rest h i
 
 pub zero_byte_lem : (n : ℕ) (rest : List ℕ) (i : ℕ) → i < n → get_or (zeros n ++ rest) i 0 ≡ 0
-zero_byte_lem zero rest i h = absurd (omega arith)
-zero_byte_lem (suc n) rest zero h = refl
-zero_byte_lem (suc n) rest (suc i) h = zero_byte_lem n rest i (omega arith)
+zero_byte_lem n rest i h = get_or-append (zeros n) rest 0 i (rw (length-replicate {A = ℕ} n 0) h) ∙ get_or-replicate n i 0 0 h
 
 module _ (n : ℕ) (rest : List ℕ) where
   pub zero_bit : (i : ℕ) → i < n * 8 → get_or (bits (zeros n ++ rest)) i 0 ≡ 0
@@ -53,10 +48,10 @@ module _ (n : ℕ) (rest : List ℕ) where
   pub zero_part : (from width : ℕ) → from + width ≤ n * 8 → part_at from width (zeros n ++ rest) ≡ 0
   zero_part from width h =
       let row : List ℕ = bits (zeros n ++ rest) in
-      let long : n * 8 ≤ length row = rw (length_bits (zeros n ++ rest), length-append (zeros n) rest, length_zeros n) (omega arith) in
+      let long : n * 8 ≤ length row = rw (length_bits (zeros n ++ rest), length-append (zeros n) rest, length-replicate {A = ℕ} n 0) (omega arith) in
       let own : length (take width (drop from row)) ≡ width = length-take-le width (drop from row) (rw (length-drop from row) (omega arith)) in
       ap number
-      (ext_get_or 0 (take width (drop from row)) (zeros width) (own ∙ sym (length_zeros width))
+      (ext_get_or 0 (take width (drop from row)) (zeros width) (own ∙ sym (length-replicate {A = ℕ} width 0))
       (λ i inside.
       let below : i < width = rw own at inside in
       get_or-take width (drop from row) i 0 below

@@ -1,3 +1,5 @@
-// Rows of bits in bytes, as in a PBM row: definitions in specs/, laws in proofs/. There is no code here.
+// Rows of bits in bytes, as in a PBM row: definitions in specs/, laws in proofs/. The code counts ones.
 
 #![tactic(auto)]
+
+pub mod ones;

@@ -1,14 +1,14 @@
 -- Adding in its two cases, as the code reaches them: the block stays open, or it closes.
 -- Assumes nothing.
-use Rattle.std.proofs.Common.{◌≡◌, ℕ, ◌+◌, ◌-◌, ◌*◌, ◌^◌, ◌<◌, ◌≤◌, true, eqb, List, length, sym, ◌∙◌, arith, eq-eqb, ne_eqb}
+use Rattle.std.proofs.Common.{◌≡◌, ℕ, ◌+◌, ◌-◌, ◌*◌, ◌^◌, ◌<◌, ◌≤◌, true, eqb, List, length, sym, ◌∙◌, eq-eqb, ne_eqb}
 use native.Mathlib.Decide.{ℕ_discrete}
 use Rattle.ring.specs.Slot.{written}
 use Rattle.book.specs.declared.Book.{Book}
 use Rattle.book.specs.declared.shape.Shape.{Shape}
 use Rattle.book.specs.Record.{block_of, width_of, record_with}
-use Rattle.book.specs.Judged.{Ready}
+use Rattle.book.proofs.Ready.{Ready}
 use Rattle.book.specs.Adding.{slot_after, kept_more, carry_with, quotient_of, added_open, added_closed, added, added_ring}
-use Rattle.book.proofs.StepsInRange.{ready_block, carry_top, quotient_in}
+use Rattle.book.proofs.StepsInRange.{ready_block, quotient_in}
 
 -- What holds of the record and the ring where the block closes, and where it stays open, holds after adding
 pub adding_cases : (P : Book → List ℕ → Type 0) (book : Book) (ring : List ℕ) (item : ℕ)
@@ -27,12 +27,6 @@ pub record Takes (book : Book) (shape : Shape) (ring : List ℕ) (item : ℕ) : 
   pub small : item ≤ book.bound
 
 module _ {book : Book} {shape : Shape} {ring : List ℕ} {item : ℕ} (k : Takes book shape ring item) where
-  -- the carry is far from 2^64
-  pub carry_fits : carry_with book item ≤ 1073741824
-  carry_fits =
-      let sound = k.ready.usable.sound in
-      omega (arith, carry_top book sound, sound.ranges.bound_high, k.small)
-
   -- the block stays open: only the record changes
   pub stays_open : (book.phase + 1 ≡ shape.block → ⊥) → {kept : ℕ} → kept ≡ kept_more book
       → (record_with book (carry_with book item) (book.phase + 1) kept book.head ≡ added book item) × (ring ≡ added_ring book ring item)

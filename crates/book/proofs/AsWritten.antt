@@ -9,9 +9,9 @@ use Rattle.refusals.proofs.Calls.{nothing_holds, none_refuses, written_out, tell
 use Rattle.ring.specs.Newest.{newest}
 use Rattle.book.specs.declared.Book.{Book}
 use Rattle.book.specs.Derived.{ceil_div, bytes_needed}
-use Rattle.book.specs.declared.Updated.{Updated}
-use Rattle.book.specs.declared.Ran.{Ran}
-use Rattle.book.specs.declared.Figure.{Figure}
+use Rattle.book.specs.declared.told.Updated.{Updated}
+use Rattle.book.specs.declared.told.Ran.{Ran}
+use Rattle.book.specs.declared.told.Figure.{Figure}
 use Rattle.book.specs.declared.shape.Shape.{Shape}
 use Rattle.book.specs.declared.shape.Shaped.{Shaped}
 use Rattle.book.specs.Shape.{number_faults, shape_of, no_shape, shape_call}

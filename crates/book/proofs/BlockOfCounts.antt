@@ -7,7 +7,7 @@ use Rattle.book.specs.Record.{block_of, slots_of, width_of, record_with}
 use Rattle.book.specs.Sound.{Sound}
 use Rattle.book.specs.Adding.{slot_after, added_open, added_closed, added, added_ring}
 use Rattle.book.specs.RunOfCounts.{any_above, added_all, added_all_ring}
-use Rattle.book.specs.RunSteps.{carry_after}
+use Rattle.book.proofs.GatheringCounts.{carry_after}
 use Rattle.book.proofs.AddingInTwoCases.{adding_cases}
 use Rattle.book.proofs.StaysABook.{open_sound, closed_sound}
 use Rattle.book.proofs.StepsInRange.{quotient_in}

@@ -8,10 +8,10 @@ use Rattle.refusals.specs.Call.{Call, refusal_of, result_of, left_of}
 use Rattle.refusals.proofs.Laws.{first_only}
 use Rattle.refusals.proofs.Calls.{none_refuses, result_cases, result_taken, result_refused, left_refused}
 use Rattle.book.specs.declared.Book.{Book}
-use Rattle.book.specs.declared.Updated.{Updated}
-use Rattle.book.specs.declared.Ran.{Ran}
+use Rattle.book.specs.declared.told.Updated.{Updated}
+use Rattle.book.specs.declared.told.Ran.{Ran}
 use Rattle.book.specs.declared.verdicts.Verdict.TheVariants.{Resting}
-use Rattle.book.specs.declared.verdicts.Ruling.TheVariants.{Told}
+use Rattle.book.specs.Answers.{Told}
 use Rattle.book.specs.Adding.{added}
 use Rattle.book.specs.RunOfCounts.{added_all}
 use Rattle.book.specs.Figure.{figure}

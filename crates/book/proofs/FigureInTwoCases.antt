@@ -10,7 +10,7 @@ use Rattle.book.specs.declared.shape.Shape.{Shape}
 use Rattle.book.specs.Derived.{ceil_div}
 use Rattle.book.specs.Record.{block_of, slots_of, held_in}
 use Rattle.book.specs.Sound.{Sound}
-use Rattle.book.specs.Judged.{Ready}
+use Rattle.book.proofs.Ready.{Ready}
 use Rattle.book.specs.Figure.{reckoned, slots_for, figure_by, figure_of, figure}
 use Rattle.book.proofs.StepsInRange.{ready_block, span_top, for_low, for_high, for_covers, for_tight, sum_top, held_le}
 

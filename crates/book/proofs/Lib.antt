@@ -4,6 +4,7 @@ pub mod NumbersInRange
 pub mod ShapeInTwoCases
 pub mod AwakeOrAtRest
 pub mod WhenTaken
+pub mod Ready
 pub mod JudgedFirst
 pub mod LookingAtAll
 pub mod TopBit

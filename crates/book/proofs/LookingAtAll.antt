@@ -1,7 +1,11 @@
 -- The look at all counts of a run: none is above L, in parts and for a larger L, and the place of the first one that is (promise C-11.2).
 -- Assumes nothing.
-use Rattle.std.proofs.Common.{◌≡◌, ℕ, zero, suc, ◌+◌, ◌-◌, ◌<◌, ◌≤◌, Bool, true, false, ◌||◌, ltb, List, [], ◌∷◌, ◌++◌, length, get_or, take, drop, replicate, sym, refl, ap, ◌∙◌, true≢false, arith, take-append-drop, drop_of_length-le, drop-cons, ltb-false, ltb-true, le-ltb, lt-ltb}
+use Rattle.std.proofs.Common.{◌≡◌, ℕ, zero, suc, ◌+◌, ◌-◌, ◌<◌, ◌≤◌, Bool, true, false, cond, ◌||◌, ltb, nat_lt, Some, List, [], ◌∷◌, ◌++◌, get_or, take, drop, replicate, sym, refl, ap, ◌∙◌, true≢false, add-one, arith, take-append-drop, ltb-false, ltb-true, le-ltb, lt-ltb}
 use mathlib.Core.Bool.{false≢true}
+use Rattle.std.specs.List.{position, position_from}
+use Rattle.std.specs.Option.{option_map}
+use Rattle.std.proofs.lemmas.Iterator.Adapters.{position_from-zero}
+use Rattle.book.specs.OrNone.{unless_0}
 use Rattle.book.specs.RunOfCounts.{any_above, place_from, place_above, FirstAbove}
 
 -- NONE ABOVE L: of the first count and of the later ones
@@ -149,28 +153,18 @@ module _ (bound : ℕ) (counts : List ℕ) where
       by true e = refl
       by false e = absurd (some (place_none 1 bound counts e))
 
--- LOOKED FOR ONE BY ONE: before count i the place is that of the first one above L from there on
-abbrev pub PlaceFurther : ℕ → List ℕ → ℕ → Type 0
-PlaceFurther bound counts i = place_from (suc i) bound (drop i counts) ≡ place_above bound counts
+-- LOOKED FOR ONE BY ONE: the place is one more than how many counts stand before the first one above L, where the places begin behind `here`
+from_here : (here bound : ℕ) (counts : List ℕ)
+    → option_map suc (position_from (nat_lt bound) here counts) ≡ unless_0 (place_from (suc here) bound counts)
+unfolding place_from
+from_here here bound [] = refl
+from_here here bound (count ∷ later) = by (nat_lt bound count) (rw (add-one here) (from_here (suc here) bound later))
+  where
+    by : (b : Bool) → option_map suc (position_from (nat_lt bound) (here + 1) later) ≡ unless_0 (place_from (suc (suc here)) bound later)
+        → option_map suc (cond b (Some here) (position_from (nat_lt bound) (here + 1) later))
+        ≡ unless_0 (cond b (suc here) (place_from (suc (suc here)) bound later))
+    by true further = refl
+    by false further = further
 
-module _ (bound : ℕ) (counts : List ℕ) (i : ℕ) (further : PlaceFurther bound counts i) where
-  -- behind the last one it is 0
-  pub place_past : length counts ≤ i → 0 ≡ place_above bound counts
-  unfolding place_from
-  place_past past = rw (drop_of_length-le counts past) at further
-
-  module _ (inside : i < length counts) where
-    from_here : place_from (suc i) bound (get_or counts i 0 ∷ drop (suc i) counts) ≡ place_above bound counts
-    from_here = rw (drop-cons counts i 0 inside) at further
-
-    -- this one is above L
-    pub place_here : bound < get_or counts i 0 → suc i ≡ place_above bound counts
-    unfolding place_from
-    place_here large = rw (lt-ltb bound (get_or counts i 0) large) at from_here
-
-    -- or the place is further on
-    pub place_on : get_or counts i 0 ≤ bound → PlaceFurther bound counts (i + 1)
-    unfolding place_from
-    place_on fits =
-        let next : i + 1 ≡ suc i = omega arith in
-        rw next (rw (le-ltb bound (get_or counts i 0) fits) at from_here)
+pub place_behind : (bound : ℕ) (counts : List ℕ) → option_map suc (position (nat_lt bound) counts) ≡ unless_0 (place_above bound counts)
+place_behind bound counts = ap (option_map suc) (position_from-zero (nat_lt bound) counts) ∙ from_here 0 bound counts

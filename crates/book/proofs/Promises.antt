@@ -35,7 +35,8 @@ pub use Rattle.book.proofs.Window0.{window_0, total_of_none}
 -- demand 1 and uniqueness of every public call
 pub use Rattle.book.proofs.Demand1.{derive_promised, open_promised, add_promised, run_promised, rest_promised, wake_promised, total_promised, two_totals_promised, far_promised, verdict_promised}
 -- a verdict leaves the ring, and tells its number whatever reads it off the answer
-pub use Rattle.book.proofs.Demand1.{open_tells, verdict_leaves, verdict_tells}
+pub use Rattle.book.proofs.Demand1.{derive_tells, open_tells, mark_tells, add_tells, run_tells, total_tells, two_totals_tells, far_tells, verdict_tells}
+pub use Rattle.book.proofs.Demand1.{shape_leaves, mark_leaves, total_leaves, two_totals_leaves, far_leaves, verdict_leaves}
 -- HOW FAR BACK. There is a smallest window whose figure reaches v, or none; it is named, or 9 is given; there is one at the most
 pub use Rattle.book.proofs.HowFarNames.{smallest_or_none, smallest_is_named, none_is_9, smallest_unique}
 -- NUMBERS of a book in range: c is 1 to n, a block holds at most D or is one item, the slots cover n, by less than a block too much

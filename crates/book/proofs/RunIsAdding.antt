@@ -5,8 +5,8 @@
 use Rattle.std.proofs.Common.{◌≡◌, ℕ, false, List, [], ◌∷◌, length, sym, refl, ap, ◌∙◌}
 use Rattle.refusals.specs.Call.{refusal_of, result_of, left_of}
 use Rattle.book.specs.declared.Book.{Book}
-use Rattle.book.specs.declared.Updated.{Updated}
-use Rattle.book.specs.declared.Ran.{Ran}
+use Rattle.book.specs.declared.told.Updated.{Updated}
+use Rattle.book.specs.declared.told.Ran.{Ran}
 use Rattle.book.specs.Resting.{awake}
 use Rattle.book.specs.Sound.{Usable}
 use Rattle.book.specs.Adding.{added, added_ring}

@@ -8,7 +8,7 @@ use Rattle.refusals.specs.Call.{refusal_of, result_of, left_of}
 use Rattle.refusals.proofs.Laws.{first_stops, first_goes_on, first_avoids}
 use Rattle.refusals.proofs.Calls.{none_refuses, result_cases, result_refused, left_refused}
 use Rattle.book.specs.declared.Book.{Book}
-use Rattle.book.specs.declared.Ran.{Ran}
+use Rattle.book.specs.declared.told.Ran.{Ran}
 use Rattle.book.specs.RunOfCounts.{any_above, place_above, place_with, FirstAbove, added_all, added_all_ring}
 use Rattle.book.specs.Sound.{Usable}
 use Rattle.book.specs.Resting.{awake}

@@ -10,7 +10,7 @@ use Rattle.book.specs.declared.shape.Shape.{Shape}
 use Rattle.book.specs.Derived.{ceil_div, slot_count, largest_quotient, field_width, bytes_needed}
 use Rattle.book.specs.Record.{block_of, slots_of, width_of, held_in}
 use Rattle.book.specs.Sound.{Ranges, Sound}
-use Rattle.book.specs.Judged.{Ready}
+use Rattle.book.proofs.Ready.{Ready}
 use Rattle.book.specs.Figure.{slots_for}
 use Rattle.book.proofs.RoundedUp.{ceil_covers, ceil_tight, ceil_le, ceil_low}
 use Rattle.book.proofs.NumbersInRange.{block_holds, block_low, block_high, block_top, tolerance_top, slots_low, slots_high, slots_cover, width_low, width_high, quotient_fits}

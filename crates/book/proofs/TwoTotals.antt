@@ -4,8 +4,8 @@ use Rattle.std.proofs.Common.{◌≡◌, ℕ, ◌+◌, List, sym, refl, ap, ◌�
 use Rattle.refusals.specs.Call.{refusal_of, result_of}
 use Rattle.refusals.proofs.Calls.{result_taken}
 use Rattle.book.specs.declared.Book.{Book}
-use Rattle.book.specs.declared.Figure.{Figure}
-use Rattle.book.specs.declared.Figures.{Figures}
+use Rattle.book.specs.declared.told.Figure.{Figure}
+use Rattle.book.specs.Answers.{Figures}
 use Rattle.book.specs.Figure.{figure}
 use Rattle.book.specs.Calls.{total_call, two_totals_call}
 use Rattle.book.proofs.WhenTaken.{total_known, total_taken, total_gives}

@@ -7,7 +7,7 @@ use Rattle.ring.proofs.Promises.{newest_none, newest_more, sum_none, sum_more}
 use Rattle.book.specs.declared.Book.{Book}
 use Rattle.book.specs.declared.shape.Shape.{Shape}
 use Rattle.book.specs.Derived.{ceil_div}
-use Rattle.book.specs.Judged.{Ready}
+use Rattle.book.proofs.Ready.{Ready}
 use Rattle.book.specs.Figure.{reckoned, figure}
 use Rattle.book.proofs.RoundedUp.{ceil_covers, ceil_le}
 use Rattle.book.proofs.StepsInRange.{ready_block}

@@ -7,7 +7,7 @@ use Rattle.book.specs.declared.shape.Shape.{Shape}
 use Rattle.book.specs.declared.distance.Stop.{Stop}
 use Rattle.book.specs.Record.{block_of, slots_of, held_in}
 use Rattle.book.specs.Sound.{Sound}
-use Rattle.book.specs.Judged.{Ready}
+use Rattle.book.proofs.Ready.{Ready}
 use Rattle.book.specs.Figure.{figure_of}
 use Rattle.book.specs.HowFar.{how_far_back}
 use Rattle.book.specs.Stops.{end_figure, oldest, furthest, Stopped}
@@ -138,8 +138,8 @@ module _ {book : Book} {shape : Shape} {ring : List ℕ} {v : ℕ} {stop : Stop}
       shortest : (i : ℕ) → 1 ≤ i → i < window → figure_of book held i < v
       shortest = named_shortest book held sound v k.asked window stop.blocks e window_is k.stopped.earlier reaches still beyond
 
-      pub window_fits : e ≤ book.phase + stop.blocks * shape.block
-      window_fits = rw k.ready.shape_is (omega (arith, inside.1))
+      pub window_some : 1 ≤ book.phase + stop.blocks * shape.block - e
+      window_some = rw k.ready.shape_is (omega (arith, inside.1))
 
       -- lies the window, if that is kept
       pub window_kept : book.phase + stop.blocks * shape.block - e ≤ book.kept

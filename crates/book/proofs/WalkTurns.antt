@@ -8,11 +8,11 @@ use Rattle.book.specs.declared.Book.{Book}
 use Rattle.book.specs.declared.shape.Shape.{Shape}
 use Rattle.book.specs.Record.{block_of, slots_of, held_in}
 use Rattle.book.specs.Sound.{Sound}
-use Rattle.book.specs.Judged.{Ready}
-use Rattle.book.specs.Stops.{gathered, end_figure, oldest, Stopped}
+use Rattle.book.proofs.Ready.{Ready}
+use Rattle.book.specs.Stops.{gathered, end_figure, oldest}
 use Rattle.book.proofs.RoundedUp.{le_or_lt}
 use Rattle.book.proofs.NumbersInRange.{slots_cover}
-use Rattle.book.proofs.StepsInRange.{ready_block, slots_top, times_top, carry_top, sum_top, held_le}
+use Rattle.book.proofs.StepsInRange.{ready_block, times_top, carry_top, sum_top, held_le}
 
 -- after some blocks of a book that is ready, none of which reached v at its end; `behind` items are walked over
 pub record Walking (book : Book) (shape : Shape) (ring : List ℕ) (v slot blocks total quotient behind : ℕ) : Type 0 where
@@ -55,10 +55,6 @@ module _ {book : Book} {shape : Shape} {ring : List ℕ} {v slot blocks total qu
     (w : Walking book shape ring v slot blocks total quotient behind) where
   sound : Sound book
   sound = w.ready.usable.sound
-
-  -- the blocks are few
-  pub blocks_top : blocks ≤ 4096
-  blocks_top = omega (arith, w.few, slots_top book sound)
 
   -- where an item that is kept is not walked over yet, there is a slot more; and the next block's end is far from 2^64
   module _ (more : behind < book.kept) where
@@ -131,16 +127,3 @@ module _ {book : Book} {shape : Shape} {ring : List ℕ} {v slot blocks total qu
               let e : k ≡ blocks = omega arith in
               rw e (rw (end_is, w.total_is) at short)
           by k (inr lt) h = w.earlier k lt
-
-  stops : (v ≤ end_figure book (held_in book ring) blocks) ⊎ (book.kept ≤ book.phase + blocks * block_of book)
-      → Stopped book (held_in book ring) v (record { blocks = blocks; total = total; quotient = quotient })
-  stops done = record { total_is = w.total_is; quotient_is = w.quotient_is; earlier = w.earlier; done = done; few = w.few }
-
-  -- it stops where the end of the block reaches v
-  pub stops_reached : {end : ℕ} → end ≡ total - (book.tolerance - 1) → v ≤ end
-      → Stopped book (held_in book ring) v (record { blocks = blocks; total = total; quotient = quotient })
-  stops_reached end_is reached = stops (inl (rw (end_is, w.total_is) at reached))
-
-  -- or where all that is kept is walked over
-  pub stops_behind : book.kept ≤ behind → Stopped book (held_in book ring) v (record { blocks = blocks; total = total; quotient = quotient })
-  stops_behind all = stops (inr (rw w.behind_is at all))

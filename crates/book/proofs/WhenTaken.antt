@@ -11,7 +11,7 @@ use Rattle.refusals.proofs.Laws.{first_stops, first_goes_on, in_range, not_outsi
 use Rattle.refusals.proofs.Calls.{nothing_holds, none_refuses, none_is0, written_out, tells, result_number, result_taken, result_refused, left_taken}
 use Rattle.book.specs.declared.Book.{Book}
 use Rattle.book.specs.Limits.{largest_bound, largest_length}
-use Rattle.book.specs.declared.verdicts.Ruling.TheVariants.{Told, Refused}
+use Rattle.book.specs.Answers.{Told, Refused}
 use Rattle.ring.specs.Slot.{cleared}
 use Rattle.book.specs.Derived.{slot_count, field_width, bytes_needed}
 use Rattle.book.specs.declared.shape.Shaped.{Shaped}
@@ -152,11 +152,6 @@ module _ (book : Book) where
 
       pub book_passes : bytes_of book ≤ lent → 0 ≡ first_of (book_faults book lent)
       book_passes room = sym (room_decides ∙ rw (le-ltb lent (bytes_of book) room))
-
--- what the code knows where it found no refusal
-pub usable_found : (book : Book) (lent : ℕ) → 0 ≡ first_of (book_faults book lent) → Usable book lent
-usable_found book lent e =
-    (usable_known book lent [] (nothing_holds (book_faults book lent) (written_out (book_faults book lent) tt) (sym e))).0
 
 -- OPENING is taken exactly where L, n and D are in their ranges and the ring has room
 module _ (bound n tolerance : ℕ) (ring : List ℕ) where

@@ -5,13 +5,13 @@ use Rattle.refusals.specs.First.{Fault, ◌gives◌, outside}
 use Rattle.refusals.specs.Call.{Call}
 use Rattle.ring.specs.Slot.{cleared}
 use Rattle.book.specs.declared.Book.{Book}
-use Rattle.book.specs.declared.Updated.{Updated}
-use Rattle.book.specs.declared.Ran.{Ran}
-use Rattle.book.specs.declared.Figure.{Figure}
-use Rattle.book.specs.declared.Figures.{Figures}
-use Rattle.book.specs.declared.Window.{Window}
-use Rattle.book.specs.declared.verdicts.Ruling.{Ruling}
-use Rattle.book.specs.declared.verdicts.Ruling.TheVariants.{Told, Refused}
+use Rattle.book.specs.declared.told.Updated.{Updated}
+use Rattle.book.specs.declared.told.Ran.{Ran}
+use Rattle.book.specs.declared.told.Figure.{Figure}
+use Rattle.book.specs.Answers.{Figures}
+use Rattle.book.specs.declared.told.Window.{Window}
+use Rattle.book.specs.Answers.{Ruling}
+use Rattle.book.specs.Answers.{Told, Refused}
 use Rattle.book.specs.Limits.{largest_bound, largest_length}
 use Rattle.book.specs.Derived.{slot_count, field_width, bytes_needed}
 use Rattle.book.specs.Shape.{number_faults}

@@ -13,4 +13,8 @@ pub mod HowFar
 pub mod Verdict
 pub mod Calls
 pub mod OneByOne
+pub mod Ready
 pub mod Judged
+pub mod OrNone
+pub mod Answers
+pub mod Told

@@ -3,8 +3,8 @@ use Rattle.std.specs.Prelude.{ℕ, ◌+◌, ◌-◌, cond, nat_le, nat_lt}
 use Rattle.book.specs.declared.Book.{Book}
 use Rattle.book.specs.declared.verdicts.Verdict.{Verdict}
 use Rattle.book.specs.declared.verdicts.Verdict.TheVariants.{Live, Frozen, Undecided, Resting}
-use Rattle.book.specs.declared.verdicts.Ruling.{Ruling}
-use Rattle.book.specs.declared.verdicts.Ruling.TheVariants.{Told, Refused}
+use Rattle.book.specs.Answers.{Ruling}
+use Rattle.book.specs.Answers.{Told, Refused}
 use Rattle.book.specs.Resting.{rests}
 
 -- with figure f: live if f ≥ v; frozen if f + D − 1 < v; otherwise undecided

@@ -1,13 +1,12 @@
 // How far back for an amount: one walk over the blocks, and one division inside the block that reaches it.
-ghost use Rattle.std.specs.Prelude.{◌≡◌, ◌+◌, ◌-◌, ◌*◌, ◌/◌, ◌<◌, ◌≤◌, min, length};
-ghost use Rattle.book.specs.Record.{block_of, held_in};
-ghost use Rattle.book.specs.Sound.{Sound};
-ghost use Rattle.book.specs.Judged.{Ready};
+ghost use Rattle.std.specs.Prelude.{◌≡◌, ◌-◌, ◌/◌, ◌<◌, ◌≤◌, length};
+ghost use Rattle.book.specs.Record.{held_in};
 ghost use Rattle.book.specs.HowFar.{how_far_back};
 ghost use Rattle.book.specs.Stops.{Stopped, furthest};
+ghost use Rattle.book.specs.OrNone.{unless_0};
 
-use crate::shape::Shape;
-use crate::{Book, slots};
+use crate::known::Known;
+use crate::slots;
 
 // Where the walk stops: behind `blocks` blocks. `total` is the carry with D times their slots, `quotient` that of the oldest.
 #[derive(Clone, Copy)]
@@ -17,92 +16,78 @@ struct Stop {
     quotient: u64,
 }
 
-// The figure where a block ends.
-fn end_figure(tolerance: u64, total: u64) -> u64
-    requires { 1 ≤ tolerance }
-    ensures { result ≡ total - (tolerance - 1) }
-{
-    if total < tolerance {
-        0
-    } else {
-        total - (tolerance - 1)
+impl Known {
+    // The figure where a block ends.
+    fn end_figure(self, total: u64) -> u64
+        ensures { result ≡ total - (self.book.tolerance - 1) }
+    {
+        total.saturating_sub(self.book.tolerance - 1)
     }
-}
 
-// floor(R/D) without a division: D − 1 and the open block's items are less than twice D.
-fn open_quotient(book: Book) -> u64
-    requires { Sound book }
-    ensures { result ≡ book.carry / book.tolerance }
-{
-    if book.carry < book.tolerance { 0 } else { 1 }
-}
-
-// Walks back over the blocks that are kept, each slot once, to the first whose end reaches the amount. `behind` items are walked over.
-fn walk(book: Book, shape: Shape, ring: &[u8], amount: u64) -> Stop
-    requires { Ready book shape (length ring.now) }
-    ensures { Stopped book (held_in book ring.now) amount result }
-{
-    let mut slot = book.head;
-    let mut blocks = 0;
-    let mut total = book.carry;
-    let mut quotient = open_quotient(book);
-    let mut behind = book.phase;
-    while behind < book.kept {
-        if amount <= end_figure(book.tolerance, total) {
-            return Stop {
-                blocks,
-                total,
-                quotient,
-            };
+    // floor(R/D) without a division: D − 1 and the open block's items are less than twice D.
+    fn open_quotient(self) -> u64
+        ensures { result ≡ self.book.carry / self.book.tolerance }
+    {
+        if self.book.carry < self.book.tolerance {
+            0
+        } else {
+            1
         }
-        slot = slots::before(shape.slots, slot);
-        quotient = slots::get(shape, ring, slot);
-        total += book.tolerance * quotient;
-        blocks += 1;
-        behind += shape.block;
     }
-    Stop {
-        blocks,
-        total,
-        quotient,
-    }
-}
 
-// How far before the end of `blocks` blocks a window can lie.
-fn most_places(book: Book, block: u64, blocks: u64) -> u64
-    requires { (1 ≤ block) × (block ≡ block_of book) }
-    ensures { result ≡ furthest book blocks }
-{
-    if blocks != 0 {
-        return block - 1;
+    // Walks back over the blocks that are kept, each slot once, to the first whose end reaches the amount. `behind` items are walked over, a block
+    // of them in each turn. (A `for` is no plainer: how many blocks there are would have to be divided out first, and where it broke off be kept.)
+    fn walk(self, ring: &[u8], amount: u64) -> Stop
+        requires { self.shape.bytes ≤ length ring.now }
+        ensures { Stopped self.book (held_in self.book ring.now) amount result }
+    {
+        let mut slot = self.book.head;
+        let mut blocks = 0;
+        let mut total = self.book.carry;
+        let mut quotient = self.open_quotient();
+        let mut behind = self.book.phase;
+        while behind < self.book.kept && self.end_figure(total) < amount {
+            slot = slots::before(self.shape.slots, slot);
+            quotient = self.get(ring, slot);
+            total += self.book.tolerance * quotient;
+            blocks += 1;
+            behind += self.shape.block;
+        }
+        Stop {
+            blocks,
+            total,
+            quotient,
+        }
     }
-    if book.phase == 0 { 0 } else { book.phase - 1 }
-}
 
-// How far before the block's end a window may lie, where each place takes `step` off a figure that has `slack` to spare.
-fn places(most: u64, slack: u64, step: u64) -> u64
-    requires { 0 < step }
-    ensures { result ≡ min most (slack / step) }
-{
-    let fit = slack / step;
-    if fit < most { fit } else { most }
-}
+    // How far before the end of `blocks` blocks a window can lie.
+    fn most_places(self, blocks: u64) -> u64
+        ensures { result ≡ furthest self.book blocks }
+    {
+        if blocks == 0 {
+            self.book.phase.saturating_sub(1)
+        } else {
+            self.shape.block - 1
+        }
+    }
 
-// The shortest window whose figure reaches the amount, and 0 where none that is kept does.
-pub(crate) fn how_far(book: Book, shape: Shape, ring: &[u8], amount: u64) -> u64
-    requires { Ready book shape (length ring.now) × (0 < amount) }
-    ensures { result ≡ how_far_back book ring.now amount }
-{
-    let stop = walk(book, shape, ring, amount);
-    let end = end_figure(book.tolerance, stop.total);
-    if end < amount {
-        return 0;
+    // The shortest window whose figure reaches the amount, if any that is kept does. In the block where the walk stops each place before its end takes
+    // L times the quotient off the figure, which has the rest of the amount to spare.
+    pub(crate) fn how_far(self, ring: &[u8], amount: u64) -> Option<u64>
+        requires { (self.shape.bytes ≤ length ring.now) × (0 < amount) }
+        ensures { result ≡ unless_0 (how_far_back self.book ring.now amount) }
+    {
+        let stop = self.walk(ring, amount);
+        let end = self.end_figure(stop.total);
+        if end < amount {
+            return None;
+        }
+        let fit = (end - amount) / (self.book.bound * stop.quotient);
+        let places = self.most_places(stop.blocks).min(fit);
+        let window = self.book.phase + stop.blocks * self.shape.block - places;
+        if self.book.kept < window {
+            return None;
+        }
+        Some(window)
     }
-    let most = most_places(book, shape.block, stop.blocks);
-    let e = places(most, end - amount, book.bound * stop.quotient);
-    let window = book.phase + stop.blocks * shape.block - e;
-    if book.kept < window {
-        return 0;
-    }
-    window
 }

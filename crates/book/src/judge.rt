@@ -2,95 +2,69 @@
 // it takes items: 17 where it rests, which adding and runs ask next.
 ghost use Rattle.std.specs.Prelude.{◌≡◌, length};
 ghost use Rattle.refusals.specs.First.{first_of};
+ghost use Rattle.refusals.specs.Refused.{number_in};
 ghost use Rattle.book.specs.Record.{shape_for};
 ghost use Rattle.book.specs.Sound.{Ranges};
 ghost use Rattle.book.specs.Calls.{state_faults};
-ghost use Rattle.book.specs.Judged.{Known, Judged, JudgedTaking};
+ghost use Rattle.book.specs.Judged.{JudgedAlone, Judged, JudgedTaking};
 
-use crate::shape::{Shape, Shaped};
+use crate::known::Known;
+use crate::shape::Shape;
 use crate::{Book, resting, shape};
-use refusals::{BOOK_RESTS, NO_BOOK, RING_TOO_SHORT};
+use refusals::Refusal;
 
 // 8, for the numbers that adding changes.
-fn state(book: Book, shape: Shape) -> u8
+fn state(book: Book, shape: Shape) -> Result<(), Refusal>
     requires { Ranges book.bound book.length book.tolerance × (shape ≡ shape_for book) }
-    ensures { result ≡ first_of (state_faults book) }
+    ensures { number_in result ≡ first_of (state_faults book) }
 {
     if book.length < book.kept {
-        return NO_BOOK;
+        return Err(Refusal::NoBook);
     }
     if book.kept < book.phase {
-        return NO_BOOK;
+        return Err(Refusal::NoBook);
     }
     if shape.block <= book.phase {
-        return NO_BOOK;
+        return Err(Refusal::NoBook);
     }
     if shape.slots <= book.head {
-        return NO_BOOK;
+        return Err(Refusal::NoBook);
     }
     if book.tolerance - 1 + book.phase * book.bound < book.carry {
-        return NO_BOOK;
+        return Err(Refusal::NoBook);
     }
-    0
+    Ok(())
 }
 
-// 8 alone; without it the book's numbers are there to go on with.
-pub(crate) fn known(book: Book) -> Shaped
-    ensures { Known book result }
+// 8 alone; without it the book is there with its numbers.
+pub(crate) fn known(book: Book) -> Result<Known, Refusal>
+    ensures { JudgedAlone book result }
 {
-    let shaped = shape::derive(book.bound, book.length, book.tolerance);
-    let shape = shaped.shape;
-    if shaped.refusal != 0 {
-        return Shaped {
-            refusal: NO_BOOK,
-            shape,
-        };
-    }
-    Shaped {
-        refusal: state(book, shape),
-        shape,
-    }
+    let Ok(shape) = shape::derive(book.bound, book.length, book.tolerance) else {
+        return Err(Refusal::NoBook);
+    };
+    state(book, shape)?;
+    Ok(Known { book, shape })
 }
 
 // 8, then 4.
-pub(crate) fn usable(book: Book, lent: u64) -> Shaped
+pub(crate) fn usable(book: Book, lent: usize) -> Result<Known, Refusal>
     ensures { Judged book lent result }
 {
-    let known = known(book);
-    let shape = known.shape;
-    if known.refusal != 0 {
-        return known;
+    let known = known(book)?;
+    if (lent as u64) < known.shape.bytes {
+        return Err(Refusal::RingTooShort);
     }
-    if lent < shape.bytes {
-        return Shaped {
-            refusal: RING_TOO_SHORT,
-            shape,
-        };
-    }
-    known
+    Ok(known)
 }
 
 // 8, 4, then 17.
-pub(crate) fn takes(book: Book, lent: u64) -> Shaped
+pub(crate) fn takes(book: Book, lent: usize) -> Result<Known, Refusal>
     ensures { JudgedTaking book lent result }
 {
-    let judged = usable(book, lent);
-    let shape = judged.shape;
-    if judged.refusal != 0 {
-        return judged;
-    }
+    let known = usable(book, lent)?;
     if book.resting != resting::AWAKE {
-        return Shaped {
-            refusal: BOOK_RESTS,
-            shape,
-        };
+        return Err(Refusal::BookRests);
     }
-    judged
-}
-
-// A length as a number of the book.
-pub(crate) fn count(n: usize) -> u64
-    ensures { result ≡ n }
-{
-    n as u64
+    Ok(known)
 }

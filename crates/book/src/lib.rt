@@ -5,26 +5,31 @@
 
 ghost use Rattle.std.specs.Prelude.{◌≡◌};
 ghost use Rattle.refusals.specs.Call.{result_of, left_of};
-ghost use Rattle.book.specs.Record.{opened};
+ghost use Rattle.book.specs.declared.RunRefusal.TheVariants.{Refused};
+ghost use Rattle.book.specs.Record.{no_book_at_all};
+ghost use Rattle.book.specs.Told.{as_updated, as_ran, as_figure, as_figures, as_window, as_ruling};
 ghost use Rattle.book.specs.Calls.{open_call, add_call, run_call, rest_call, wake_call, total_call, two_totals_call, how_far_call, verdict_call};
 
-use refusals::{ITEM_TOO_LARGE, NOT_REACHED, RING_TOO_SHORT, WINDOW_TOO_LONG, ZERO_ASKED};
-use verdicts::{Notice, Ruling};
+use refusals::Refusal;
+use verdicts::Notice;
 
 mod adding;
 mod distance;
 mod judge;
+mod known;
 mod resting;
 mod running;
 pub mod shape;
 mod slots;
+pub mod told;
 mod totals;
 mod two_windows;
 pub mod verdicts;
 
 // L, n and D, which opening sets; the carry R, the phase p, kept and head, which adding changes; and the resting mark: 0, or the book rests.
+// Eight equal numbers, as C has them, the mark too.
 #[repr(C)]
-#[derive(Clone, Copy)]
+#[derive(Clone, Copy, Default)]
 pub struct Book {
     pub bound: u64,
     pub length: u64,
@@ -36,256 +41,136 @@ pub struct Book {
     pub resting: u64,
 }
 
-// A refusal number, 0 for none, and the record to go on with.
-#[repr(C)]
+// The figures of two windows.
 #[derive(Clone, Copy)]
-pub struct Updated {
-    pub refusal: u8,
-    pub book: Book,
-}
-
-// A refusal number, 0 for none; with ITEM_TOO_LARGE the place, from 1, of the first count above the bound, else 0; and the record to go on with.
-#[repr(C)]
-#[derive(Clone, Copy)]
-pub struct Ran {
-    pub refusal: u8,
-    pub place: u64,
-    pub book: Book,
-}
-
-// A refusal number, 0 for none, and a window, which is 0 at a refusal.
-#[repr(C)]
-#[derive(Clone, Copy)]
-pub struct Window {
-    pub refusal: u8,
-    pub window: u64,
-}
-
-// A refusal number, 0 for none, and a figure, which is 0 at a refusal.
-#[repr(C)]
-#[derive(Clone, Copy)]
-pub struct Figure {
-    pub refusal: u8,
-    pub figure: u64,
-}
-
-// A refusal number, 0 for none, and the figures of two windows, which are 0 at a refusal.
-#[repr(C)]
-#[derive(Clone, Copy)]
-pub struct Figures {
-    pub refusal: u8,
+pub struct BothFigures {
     pub shorter: u64,
     pub longer: u64,
 }
 
-// Opens a book with a bound, a length and a tolerance, and clears the bytes that its ring takes.
-pub fn open(bound: u64, length: u64, tolerance: u64, ring: &mut [u8]) -> Updated
-    ensures { (result ≡ result_of (open_call bound length tolerance ring.old)) × (ring.new ≡ left_of (open_call bound length tolerance ring.old)) }
-{
-    let shaped = shape::derive(bound, length, tolerance);
-    if shaped.refusal != 0 {
-        let zeros = fresh(0, 0, 0);
-        return Updated {
-            refusal: shaped.refusal,
-            book: zeros,
-        };
-    }
-    let shape = shaped.shape;
-    if judge::count(ring.len()) < shape.bytes {
-        let zeros = fresh(0, 0, 0);
-        return Updated {
-            refusal: RING_TOO_SHORT,
-            book: zeros,
-        };
-    }
-    slots::clear(shape, ring);
-    let book = fresh(bound, length, tolerance);
-    Updated { refusal: 0, book }
+// Why a run is refused: for the book's sake or its ring's, or since a count is above the bound, and then with the place, from 1, of the first such
+// count.
+#[derive(Clone, Copy, Debug, PartialEq, Eq)]
+pub enum RunRefusal {
+    Refused(Refusal),
+    CountTooLarge(u64),
 }
 
-// A record with nothing in it yet.
-fn fresh(bound: u64, length: u64, tolerance: u64) -> Book
-    ensures { result ≡ opened bound length tolerance }
+impl From<Refusal> for RunRefusal {
+    ghost from_gives = { λ refusal run_refusal. run_refusal ≡ Refused refusal };
+
+    fn from(refusal: Refusal) -> RunRefusal {
+        RunRefusal::Refused(refusal)
+    }
+}
+
+// Opens a book with a bound, a length and a tolerance, and clears the bytes that its ring takes.
+pub fn open(bound: u64, length: u64, tolerance: u64, ring: &mut [u8]) -> Result<Book, Refusal>
+    ensures { (as_updated no_book_at_all result ≡ result_of (open_call bound length tolerance ring.old)) × (ring.new ≡ left_of (open_call bound length tolerance ring.old)) }
 {
-    Book {
+    let shape = shape::derive(bound, length, tolerance)?;
+    if (ring.len() as u64) < shape.bytes {
+        return Err(Refusal::RingTooShort);
+    }
+    slots::clear(shape, ring);
+    Ok(Book {
         bound,
         length,
         tolerance,
-        carry: 0,
-        phase: 0,
-        kept: 0,
-        head: 0,
-        resting: resting::AWAKE,
-    }
+        ..Book::default()
+    })
 }
 
 // Adds one item to a book.
-pub fn add(book: Book, ring: &mut [u8], item: u64) -> Updated
-    ensures { (result ≡ result_of (add_call book ring.old item)) × (ring.new ≡ left_of (add_call book ring.old item)) }
+pub fn add(book: Book, ring: &mut [u8], item: u64) -> Result<Book, Refusal>
+    ensures { (as_updated book result ≡ result_of (add_call book ring.old item)) × (ring.new ≡ left_of (add_call book ring.old item)) }
 {
-    let judged = judge::takes(book, judge::count(ring.len()));
-    if judged.refusal != 0 {
-        return Updated {
-            refusal: judged.refusal,
-            book,
-        };
-    }
+    let known = judge::takes(book, ring.len())?;
     if book.bound < item {
-        return Updated {
-            refusal: ITEM_TOO_LARGE,
-            book,
-        };
+        return Err(Refusal::ItemTooLarge);
     }
-    let shape = judged.shape;
-    let next = adding::add(book, shape, ring, item);
-    Updated {
-        refusal: 0,
-        book: next,
-    }
+    Ok(known.add(ring, item))
 }
 
 // Adds a run of counts to a book, all of them or none.
-pub fn run(book: Book, ring: &mut [u8], counts: &[u64]) -> Ran
-    ensures { (result ≡ result_of (run_call book ring.old counts.now)) × (ring.new ≡ left_of (run_call book ring.old counts.now)) }
+pub fn run(book: Book, ring: &mut [u8], counts: &[u64]) -> Result<Book, RunRefusal>
+    ensures { (as_ran book result ≡ result_of (run_call book ring.old counts.now)) × (ring.new ≡ left_of (run_call book ring.old counts.now)) }
 {
-    let judged = judge::takes(book, judge::count(ring.len()));
-    if judged.refusal != 0 {
-        return Ran {
-            refusal: judged.refusal,
-            place: 0,
-            book,
-        };
+    let known = judge::takes(book, ring.len())?;
+    if let Some(place) = running::place_above(book.bound, counts) {
+        return Err(RunRefusal::CountTooLarge(place));
     }
-    let place = running::place_above(book.bound, counts);
-    if place != 0 {
-        return Ran {
-            refusal: ITEM_TOO_LARGE,
-            place,
-            book,
-        };
-    }
-    let shape = judged.shape;
-    let next = running::add_all(book, shape, ring, counts);
-    Ran {
-        refusal: 0,
-        place: 0,
-        book: next,
-    }
+    Ok(known.add_all(ring, counts))
 }
 
 // Gives the record with its mark set: a book that rests takes no items, and its verdict is resting.
-pub fn rest(book: Book) -> Updated
-    ensures { result ≡ result_of (rest_call book) }
+pub fn rest(book: Book) -> Result<Book, Refusal>
+    ensures { as_updated book result ≡ result_of (rest_call book) }
 {
     resting::mark(book, resting::AT_REST)
 }
 
 // Gives the record with its mark cleared: the book is awake again.
-pub fn wake(book: Book) -> Updated
-    ensures { result ≡ result_of (wake_call book) }
+pub fn wake(book: Book) -> Result<Book, Refusal>
+    ensures { as_updated book result ≡ result_of (wake_call book) }
 {
     resting::mark(book, resting::AWAKE)
 }
 
 // The figure for the last `window` items.
-pub fn total(book: Book, ring: &[u8], window: u64) -> Figure
-    ensures { result ≡ result_of (total_call book ring.now window) }
+pub fn total(book: Book, ring: &[u8], window: u64) -> Result<u64, Refusal>
+    ensures { as_figure result ≡ result_of (total_call book ring.now window) }
 {
-    let judged = judge::usable(book, judge::count(ring.len()));
-    if judged.refusal != 0 {
-        return no_figure(judged.refusal);
-    }
+    let known = judge::usable(book, ring.len())?;
     if book.kept < window {
-        return no_figure(WINDOW_TOO_LONG);
+        return Err(Refusal::WindowTooLong);
     }
-    let shape = judged.shape;
-    Figure {
-        refusal: 0,
-        figure: totals::figure_of(book, shape, ring, window),
-    }
-}
-
-fn no_figure(refusal: u8) -> Figure
-    ensures { result ≡ record { refusal = refusal; figure = 0 } }
-{
-    Figure { refusal, figure: 0 }
+    Ok(known.figure(ring, window))
 }
 
 // The figures for the last `window` items and for the last `window + more`, with one judgement and one walk. That sum is not made before it is known
 // to be within kept.
-pub fn two_totals(book: Book, ring: &[u8], window: u64, more: u64) -> Figures
-    ensures { result ≡ result_of (two_totals_call book ring.now window more) }
+pub fn two_totals(book: Book, ring: &[u8], window: u64, more: u64) -> Result<BothFigures, Refusal>
+    ensures { as_figures result ≡ result_of (two_totals_call book ring.now window more) }
 {
-    let judged = judge::usable(book, judge::count(ring.len()));
-    if judged.refusal != 0 {
-        return no_figures(judged.refusal);
-    }
+    let known = judge::usable(book, ring.len())?;
     if book.kept < window {
-        return no_figures(WINDOW_TOO_LONG);
+        return Err(Refusal::WindowTooLong);
     }
     if book.kept - window < more {
-        return no_figures(WINDOW_TOO_LONG);
+        return Err(Refusal::WindowTooLong);
     }
-    let shape = judged.shape;
-    two_windows::figures_of(book, shape, ring, window, more)
-}
-
-fn no_figures(refusal: u8) -> Figures
-    ensures { result ≡ record { refusal = refusal; shorter = 0; longer = 0 } }
-{
-    Figures {
-        refusal,
-        shorter: 0,
-        longer: 0,
-    }
+    Ok(known.figures(ring, window, more))
 }
 
 // How far back for an amount: the shortest window whose figure reaches it.
-pub fn how_far_back(book: Book, ring: &[u8], amount: u64) -> Window
-    ensures { result ≡ result_of (how_far_call book ring.now amount) }
+pub fn how_far_back(book: Book, ring: &[u8], amount: u64) -> Result<u64, Refusal>
+    ensures { as_window result ≡ result_of (how_far_call book ring.now amount) }
 {
-    let judged = judge::usable(book, judge::count(ring.len()));
-    if judged.refusal != 0 {
-        return no_window(judged.refusal);
-    }
+    let known = judge::usable(book, ring.len())?;
     if amount == 0 {
-        return no_window(ZERO_ASKED);
+        return Err(Refusal::ZeroAsked);
     }
-    let shape = judged.shape;
-    let window = distance::how_far(book, shape, ring, amount);
-    if window == 0 {
-        return no_window(NOT_REACHED);
-    }
-    Window { refusal: 0, window }
-}
-
-fn no_window(refusal: u8) -> Window
-    ensures { result ≡ record { refusal = refusal; window = 0 } }
-{
-    Window { refusal, window: 0 }
+    known.how_far(ring, amount).ok_or(Refusal::NotReached)
 }
 
 // The verdict for a window and an amount, as the page is told it.
-pub fn verdict(book: Book, ring: &[u8], window: u64, amount: u64) -> Ruling
-    ensures { result ≡ result_of (verdict_call book ring.now window amount) }
+pub fn verdict(book: Book, ring: &[u8], window: u64, amount: u64) -> Result<Notice, Refusal>
+    ensures { as_ruling result ≡ result_of (verdict_call book ring.now window amount) }
 {
-    let judged = judge::usable(book, judge::count(ring.len()));
-    if judged.refusal != 0 {
-        return Ruling::Refused(judged.refusal);
-    }
+    let known = judge::usable(book, ring.len())?;
     if amount == 0 {
-        return Ruling::Refused(ZERO_ASKED);
+        return Err(Refusal::ZeroAsked);
     }
     if window == 0 {
-        return Ruling::Refused(ZERO_ASKED);
+        return Err(Refusal::ZeroAsked);
     }
     if book.kept < window {
-        return Ruling::Refused(WINDOW_TOO_LONG);
+        return Err(Refusal::WindowTooLong);
     }
-    let shape = judged.shape;
-    let figure = totals::figure_of(book, shape, ring, window);
-    Ruling::Told(Notice {
+    let figure = known.figure(ring, window);
+    Ok(Notice {
         window,
-        verdict: verdicts::tell(book, amount, figure),
+        verdict: known.verdict(amount, figure),
     })
 }

@@ -1,14 +1,16 @@
 // The numbers c, s, z, b and B of a book, derived once a call and handed on: specs/Derived.antt, specs/Shape.antt.
 ghost use Rattle.std.specs.Prelude.{◌≡◌, ◌/◌, ◌<◌, ◌≤◌};
-ghost use Rattle.refusals.specs.First.{first_of, outside};
+ghost use Rattle.refusals.specs.First.{first_of};
 ghost use Rattle.refusals.specs.Call.{result_of};
+ghost use Rattle.refusals.specs.Refused.{number_in};
 ghost use Rattle.ring.specs.Slot.{ring_bytes};
 ghost use Rattle.book.specs.Limits.{largest_bound, largest_length};
 ghost use Rattle.book.specs.Derived.{ceil_div, binary_digits};
-ghost use Rattle.book.specs.Shape.{shape_of, no_shape, number_faults, shape_call};
+ghost use Rattle.book.specs.Shape.{shape_of, number_faults, shape_call};
 ghost use Rattle.book.specs.Sound.{Ranges};
+ghost use Rattle.book.specs.Told.{as_shaped};
 
-use refusals::{BAD_BOUND, BAD_LENGTH, BAD_TOLERANCE};
+use refusals::Refusal;
 
 const LARGEST_BOUND: u64 = 65535;
 
@@ -16,7 +18,7 @@ const LARGEST_LENGTH: u64 = 4096;
 
 // c, the items of a block; s, the slots; z, the largest quotient; b, the bits of a slot; B, the bytes of the ring.
 #[repr(C)]
-#[derive(Clone, Copy)]
+#[derive(Clone, Copy, Default)]
 pub struct Shape {
     pub block: u64,
     pub slots: u64,
@@ -33,58 +35,42 @@ pub struct Shaped {
     pub shape: Shape,
 }
 
-// The numbers of a book with a bound, a length and a tolerance: how many bytes to lend is one of them.
-pub fn derive(bound: u64, length: u64, tolerance: u64) -> Shaped
-    ensures { result ≡ result_of (shape_call bound length tolerance) }
-{
-    let refusal = refusal_of(bound, length, tolerance);
-    if refusal != 0 {
-        let zeros = none();
-        return Shaped {
-            refusal,
-            shape: zeros,
-        };
+impl From<Result<Shape, Refusal>> for Shaped {
+    ghost from_gives = { λ answer told. told ≡ as_shaped answer };
+
+    fn from(answer: Result<Shape, Refusal>) -> Shaped {
+        match answer {
+            Ok(shape) => Shaped { refusal: 0, shape },
+            Err(refusal) => Shaped {
+                refusal: refusal.number(),
+                shape: Shape::default(),
+            },
+        }
     }
-    let shape = in_two_cases(bound, length, tolerance);
-    Shaped { refusal: 0, shape }
 }
 
-// x does not lie in low … high.
-fn outside(low: u64, high: u64, x: u64) -> bool
-    ensures { result ≡ outside low high x }
+// The numbers of a book with a bound, a length and a tolerance: how many bytes to lend is one of them.
+pub fn derive(bound: u64, length: u64, tolerance: u64) -> Result<Shape, Refusal>
+    ensures { as_shaped result ≡ result_of (shape_call bound length tolerance) }
 {
-    if x < low {
-        return true;
-    }
-    high < x
+    numbers_in_range(bound, length, tolerance)?;
+    Ok(in_two_cases(bound, length, tolerance))
 }
 
 // 1, 2, 3: L, n and D in their ranges.
-fn refusal_of(bound: u64, length: u64, tolerance: u64) -> u8
-    ensures { result ≡ first_of (number_faults bound length tolerance) }
+fn numbers_in_range(bound: u64, length: u64, tolerance: u64) -> Result<(), Refusal>
+    ensures { number_in result ≡ first_of (number_faults bound length tolerance) }
 {
-    if outside(1, LARGEST_BOUND, bound) {
-        return BAD_BOUND;
+    if !(1..=LARGEST_BOUND).contains(&bound) {
+        return Err(Refusal::BadBound);
     }
-    if outside(1, LARGEST_LENGTH, length) {
-        return BAD_LENGTH;
+    if !(1..=LARGEST_LENGTH).contains(&length) {
+        return Err(Refusal::BadLength);
     }
-    if outside(1, length * bound, tolerance) {
-        return BAD_TOLERANCE;
+    if !(1..=length * bound).contains(&tolerance) {
+        return Err(Refusal::BadTolerance);
     }
-    0
-}
-
-fn none() -> Shape
-    ensures { result ≡ no_shape }
-{
-    Shape {
-        block: 0,
-        slots: 0,
-        largest: 0,
-        width: 0,
-        bytes: 0,
-    }
+    Ok(())
 }
 
 // Two divisions at the most: where D is below L a block is one item, and there are n slots; elsewhere a block holds no more than D, and z is 1.
@@ -110,7 +96,7 @@ fn packed(block: u64, slots: u64, largest: u64) -> Shape
         slots,
         largest,
         width,
-        bytes: (slots * width + 7) / 8,
+        bytes: (slots * width).div_ceil(8),
     }
 }
 
@@ -118,7 +104,7 @@ fn packed(block: u64, slots: u64, largest: u64) -> Shape
 fn binary_digits(v: u64) -> u64
     ensures { result ≡ binary_digits v }
 {
-    64 - u64::leading_zeros(v) as u64
+    64 - v.leading_zeros() as u64
 }
 
 // a/b, where both have at most 32 bits: the shorter division is the quicker one.
@@ -129,9 +115,10 @@ fn div(a: u64, b: u64) -> u64
     (a as u32 / b as u32) as u64
 }
 
+// The same, rounded up.
 pub(crate) fn ceil_div(a: u64, b: u64) -> u64
     requires { (0 < b) × (a ≤ 1073741824) × (b ≤ 1073741824) }
     ensures { result ≡ ceil_div a b }
 {
-    div(a + (b - 1), b)
+    (a as u32).div_ceil(b as u32) as u64
 }

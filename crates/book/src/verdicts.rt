@@ -2,7 +2,8 @@
 ghost use Rattle.std.specs.Prelude.{◌≡◌, ◌≤◌};
 ghost use Rattle.book.specs.Verdict.{verdict_of, verdict_now};
 
-use crate::{Book, resting};
+use crate::known::Known;
+use crate::resting;
 
 #[derive(Clone, Copy)]
 pub enum Verdict {
@@ -19,25 +20,8 @@ pub struct Notice {
     pub verdict: Verdict,
 }
 
-// A notice, or the number of the refusal.
-#[derive(Clone, Copy)]
-pub enum Ruling {
-    Told(Notice),
-    Refused(u8),
-}
-
-// While the book rests, resting; otherwise by the figure.
-pub(crate) fn tell(book: Book, amount: u64, figure: u64) -> Verdict
-    requires { 1 ≤ book.tolerance }
-    ensures { result ≡ verdict_now book amount figure }
-{
-    if book.resting != resting::AWAKE {
-        return Verdict::Resting(figure);
-    }
-    rule(book.tolerance, amount, figure)
-}
-
 // Live if f ≥ v, frozen if f + D − 1 < v, otherwise undecided. (The sum is not made, since it could wrap.)
+#[tactic(auto, unfolding(crate::specs::Verdict::verdict_of))]
 fn rule(tolerance: u64, amount: u64, figure: u64) -> Verdict
     requires { 1 ≤ tolerance }
     ensures { result ≡ verdict_of tolerance amount figure }
@@ -49,4 +33,16 @@ fn rule(tolerance: u64, amount: u64, figure: u64) -> Verdict
         return Verdict::Frozen(figure);
     }
     Verdict::Undecided(figure)
+}
+
+impl Known {
+    // While the book rests, resting; otherwise by the figure.
+    pub(crate) fn verdict(self, amount: u64, figure: u64) -> Verdict
+        ensures { result ≡ verdict_now self.book amount figure }
+    {
+        if self.book.resting != resting::AWAKE {
+            return Verdict::Resting(figure);
+        }
+        rule(self.book.tolerance, amount, figure)
+    }
 }

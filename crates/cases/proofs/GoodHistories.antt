@@ -9,7 +9,7 @@ use Rattle.refusals.specs.Call.{Call, refusal_of, result_of, left_of, seen_as}
 use Rattle.refusals.proofs.Calls.{seen_result, seen_left}
 use Rattle.ring.specs.Slot.{ring_bytes}
 use Rattle.book.specs.declared.Book.{Book}
-use Rattle.book.specs.declared.Updated.{Updated}
+use Rattle.book.specs.declared.told.Updated.{Updated}
 use Rattle.book.specs.Derived.{ceil_div, block_length, slot_count, largest_quotient, digits_within, binary_digits, field_width, bytes_needed}
 use Rattle.book.specs.Calls.{open_call, add_call}
 use Rattle.demands.specs.History.{Good, start, adding}

@@ -2,8 +2,8 @@
 use Rattle.std.specs.Prelude.{ℕ, List}
 use Rattle.refusals.specs.Call.{by_refusal, result_of, left_of}
 use Rattle.book.specs.declared.Book.{Book}
-use Rattle.book.specs.declared.verdicts.Ruling.{Ruling}
-use Rattle.book.specs.declared.verdicts.Ruling.TheVariants.{Told, Refused}
+use Rattle.book.specs.Answers.{Ruling}
+use Rattle.book.specs.Answers.{Told, Refused}
 use Rattle.book.specs.Shape.{shape_call}
 use Rattle.book.specs.Calls.{open_call, add_call, total_call, how_far_call, verdict_call}
 use Rattle.trend.specs.Trend.{trend_call}

@@ -10,7 +10,7 @@ use lib.ListN.{length}
 use Rattle.refusals.specs.Call.{refusal_of, result_of, left_of}
 use Rattle.ring.proofs.Promises.{length_cleared}
 use Rattle.book.specs.declared.Book.{Book}
-use Rattle.book.specs.declared.Ran.{Ran}
+use Rattle.book.specs.declared.told.Ran.{Ran}
 use Rattle.book.specs.Derived.{slot_count, field_width}
 use Rattle.book.specs.Resting.{awake, marked}
 use Rattle.book.specs.Sound.{Usable}
@@ -19,7 +19,7 @@ use Rattle.book.specs.OneByOne.{OneByOne}
 use Rattle.book.specs.Calls.{run_call}
 use Rattle.book.proofs.Promises.{block_low, slots_low, book_lent, run_taken, run_gives, run_is_adding, one_end}
 use Rattle.sums.specs.Row.{added_all_row}
-use Rattle.coarse.specs.declared.Coarser.{Coarser}
+use Rattle.coarse.specs.declared.told.Coarser.{Coarser}
 use Rattle.coarse.specs.Coarsens.{Coarsens}
 use Rattle.coarse.specs.Coarser.{coarsened, coarsened_ring}
 use Rattle.coarse.specs.Calls.{coarser_bytes, coarsen_call}

@@ -7,7 +7,7 @@ use mathlib.Core.Path.{◌≡◌, sym, ap, ◌∙◌}
 use lib.ListN.{length}
 use Rattle.refusals.specs.Call.{refusal_of, left_of}
 use Rattle.book.specs.declared.Book.{Book}
-use Rattle.book.specs.declared.Ran.{Ran}
+use Rattle.book.specs.declared.told.Ran.{Ran}
 use Rattle.book.specs.Derived.{slot_count}
 use Rattle.book.specs.RunOfCounts.{added_all, added_all_ring}
 use Rattle.book.proofs.Promises.{run_gives}
@@ -15,7 +15,7 @@ use Rattle.sums.specs.Row.{added_all_row}
 use Rattle.sums.specs.Calls.{RingAndRow, run_row_call}
 use Rattle.sums.specs.OneByOne.{OneByOne}
 use Rattle.sums.proofs.Promises.{run_beside, run_row_is_adding, cleared_rest}
-use Rattle.coarse.specs.declared.Coarser.{Coarser}
+use Rattle.coarse.specs.declared.told.Coarser.{Coarser}
 use Rattle.coarse.specs.Calls.{coarser_entries, coarsen_call, coarsen_row_call}
 use Rattle.coarse.specs.Histories.{Gives, begun_coarser, begun_ring, begun_row, AsFreshWithRow}
 use Rattle.coarse.proofs.WhenTaken.{coarsen_beside}

@@ -10,7 +10,8 @@ use Rattle.refusals.specs.Demand1.{Tells, Promised}
 use Rattle.refusals.proofs.Calls.{promised, tells, result_number}
 use Rattle.book.specs.declared.Book.{Book}
 use Rattle.sums.proofs.Promises.{with_row_tells}
-use Rattle.coarse.specs.declared.Coarser.{Coarser}
+use Rattle.coarse.specs.declared.told.Coarser.{Coarser}
+use Rattle.coarse.specs.Told.{as_coarser}
 use Rattle.coarse.specs.Calls.{coarser_entries, coarse_faults, coarsen_call, coarsen_row_call}
 use Rattle.coarse.proofs.WhenTaken.{coarsen_refusal, coarsen_back}
 use Rattle.coarse.proofs.coarsen.Reads as coarsen-reads
@@ -31,11 +32,11 @@ module _ (book : Book) (ring : List ℕ) (times : ℕ) (second : List ℕ) where
       (λ number. ap (λ (r : Coarser). r.refusal) ((coarsen_back book ring times second).0 number)) tt
 
 -- In `a` stand the arguments in their order, both rings and the row among them, in `e` the same as the call returns.
-pub coarsen_promised : (κs : Lfts 2) → Promised (coarsen-reads.Post κs) (λ r. r) (λ a e. e.1.1.1.0.now)
+pub coarsen_promised : (κs : Lfts 2) → Promised (coarsen-reads.Post κs) (λ a r. as_coarser a.0 r) (λ a e. e.1.1.1.0.now)
     (λ a. coarsen_call a.0 a.1.0.now a.1.1.0 a.1.1.1.0.now) (λ (r : Coarser). r.refusal)
 coarsen_promised κs = promised _ _ _ _ (λ a r e p. (p.0, p.1)) _ (λ a. coarsen_tells _ _ _ _)
 
-pub coarsen_row_promised : (κs : Lfts 3) → Promised (coarsen-row-reads.Post κs) (λ r. r)
+pub coarsen_row_promised : (κs : Lfts 3) → Promised (coarsen-row-reads.Post κs) (λ a r. as_coarser a.0 r)
     (λ a e. record { ring = e.1.1.1.0.now; row = e.1.1.1.1.0.now })
     (λ a. coarsen_row_call a.0 a.1.0.now a.1.1.0 a.1.1.1.0.now a.1.1.1.1.0.now) (λ (r : Coarser). r.refusal)
 coarsen_row_promised κs =

@@ -16,7 +16,7 @@ use Rattle.book.specs.declared.Book.{Book}
 use Rattle.book.proofs.Promises.{le_or_lt}
 use Rattle.sums.specs.Calls.{RingAndRow}
 use Rattle.sums.specs.Beside.{BesideTheBook}
-use Rattle.coarse.specs.declared.Coarser.{Coarser}
+use Rattle.coarse.specs.declared.told.Coarser.{Coarser}
 use Rattle.coarse.specs.Coarser.{coarsened_row}
 use Rattle.coarse.specs.Calls.{coarser_entries, coarse_faults, coarsen_call, coarsen_row_call}
 use Rattle.coarse.proofs.WhenTaken.{coarsen_refusal, coarsen_known, coarsen_beside}

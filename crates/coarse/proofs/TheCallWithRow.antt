@@ -11,24 +11,23 @@ use Rattle.refusals.specs.First.{first_of}
 use Rattle.refusals.specs.Call.{Call, refusal_of, result_of, left_of}
 use Rattle.refusals.proofs.Calls.{result_refused, left_refused}
 use Rattle.book.specs.declared.Book.{Book}
-use Rattle.book.specs.declared.Updated.{Updated}
 use Rattle.book.specs.declared.shape.Shape.{Shape}
-use Rattle.book.specs.Shape.{shape_call}
+use Rattle.book.specs.Ready.{Ready}
+use Rattle.book.specs.Calls.{open_call}
 use Rattle.book.specs.Record.{slots_of, shape_for}
 use Rattle.book.specs.Sound.{Ranges, Usable}
 use Rattle.book.specs.RunOfCounts.{added_all, added_all_ring}
-use Rattle.book.proofs.Promises.{shape_cases, open_taken, open_gives, block_low, block_high, slots_top, times_top, carry_top}
+use Rattle.book.proofs.Promises.{open_taken, open_gives, block_low, block_high, slots_top, times_top, carry_top}
 use Rattle.sums.specs.Row.{entries_for, added_all_row}
 use Rattle.sums.specs.Calls.{RingAndRow, open_row_call}
 use Rattle.sums.specs.Beside.{SameAs, BesideTheBook}
 use Rattle.sums.proofs.Promises.{open_beside, open_leaves_rest}
-use Rattle.coarse.specs.declared.Coarser.{Coarser}
-use Rattle.coarse.specs.declared.judge.Judged.{Judged}
+use Rattle.coarse.specs.declared.told.Coarser.{Coarser}
 use Rattle.coarse.specs.Quotients.{blocks_kept, quotients}
 use Rattle.coarse.specs.Coarsens.{Coarsens}
 use Rattle.coarse.specs.Coarser.{fresh_tally, fresh_ring, fresh_row, tally, coarsened, coarsened_ring, coarsened_row}
 use Rattle.coarse.specs.Calls.{coarser_bytes, coarser_entries, coarse_faults, coarsen_call, coarsen_row_call}
-use Rattle.coarse.specs.Steps.{row_faults, Asked, OneBit, Takes, Small}
+use Rattle.coarse.specs.Steps.{row_faults, OneBit, Takes, Small}
 use Rattle.coarse.proofs.WhenTaken.{coarsen_known, coarsen_gives, coarsen_beside}
 use Rattle.coarse.proofs.CoarserNumbers.{old_width, new_slots}
 use Rattle.coarse.proofs.CoarserIsABook.{blocks_have_slots, fresh_ranges, fresh_room, fresh_usable, tally_stays, tally_phase}
@@ -37,12 +36,10 @@ module _ (book : Book) (ring : List ℕ) (times : ℕ) (second row : List ℕ) w
   abbrev call : Call Coarser RingAndRow
   call = coarsen_row_call book ring times second row
 
-  -- what was asked is the refusal
-  pub asked_first : {judged : Judged} {bytes entries : ℕ} → Asked book (length ring) times bytes entries judged → bytes ≡ length second
-      → entries ≡ length row → judged.refusal ≡ refusal_of call
+  -- what is asked first is all that it is refused with
+  pub asked_first : refusal_of call ≡ first_of (row_faults book (length ring) times (length second) (length row))
   unfolding coarsen_row_call
-  asked_first asked bytes_is entries_is =
-      asked.refusal_is ∙ ap₂ (λ (a b : ℕ). first_of (row_faults book (length ring) times a b)) bytes_is entries_is
+  asked_first = refl
 
   -- REFUSED
   pub handed_back : {number : ℕ} → number ≡ refusal_of call → (number ≡ 0 → ⊥)
@@ -85,11 +82,9 @@ module _ (book : Book) (ring : List ℕ) (times : ℕ) (second row : List ℕ) w
     phase_kept = usable.sound.kept_low
 
     -- with the old book's numbers
-    module _ {shape : Shape} (told : shape ≡ (result_of (shape_call book.bound book.length book.tolerance)).shape) where
+    module _ {shape : Shape} (ready : Ready book shape (length ring)) where
       shape_is : shape ≡ shape_for book
-      shape_is =
-          told
-          ∙ shape_cases (λ s. s ≡ shape_for book) book.bound book.length book.tolerance (λ r. refl) (λ none. absurd (none ranges))
+      shape_is = ready.shape_is
 
       pub block_some : 0 < shape.block
       block_some = rw shape_is (block_low book.bound book.tolerance)
@@ -114,34 +109,41 @@ module _ (book : Book) (ring : List ℕ) (times : ℕ) (second row : List ℕ) w
           ∙ open_taken 1 (slots_of book) times second (fresh_ranges book ring times usable can)
           (fresh_room book ring times usable can second bytes_room)
 
-      module _ {opened : Updated} {second' row' : List ℕ} (result : opened ≡ result_of (open_row_call 1 shape.slots times second row))
+      slots_are : shape.slots ≡ slots_of book
+      slots_are = ap (λ (s : Shape). s.slots) shape_is
+
+      own_opening : SameAs (open_call 1 (slots_of book) times second) (open_row_call 1 (slots_of book) times second row)
+      own_opening = let b = open_beside 1 (slots_of book) times second row in b.with_room (b.had_room opening)
+
+      pub opens : result_of (open_row_call 1 shape.slots times second row) ≡ record { refusal = 0; book = fresh_tally book times }
+      opens =
+          ap (λ (n : ℕ). result_of (open_row_call 1 n times second row)) slots_are ∙ own_opening.same_result
+          ∙ (open_gives 1 (slots_of book) times second (sym own_opening.same_refusal ∙ opening)).0
+
+      module _ {opened : Book} {second' row' : List ℕ} (opened_is : opened ≡ fresh_tally book times)
           (ring_left_lem : second' ≡ (left_of (open_row_call 1 shape.slots times second row)).ring)
           (row_left_lem : row' ≡ (left_of (open_row_call 1 shape.slots times second row)).row) where
-        slots_are : shape.slots ≡ slots_of book
-        slots_are = ap (λ (s : Shape). s.slots) shape_is
-
         -- it is fresh, and so are its ring and its row
         record Fresh : Type 0 where
-          book_is : opened.book ≡ fresh_tally book times
+          book_is : opened ≡ fresh_tally book times
           ring_is : second' ≡ fresh_ring book times second
           row_is : row' ≡ fresh_row book times row
           row_long : length row' ≡ length row
 
         fresh : Fresh
         fresh =
-            let b = open_beside 1 (slots_of book) times second row in
-            let s = b.with_room (b.had_room opening) in
-            let gives = open_gives 1 (slots_of book) times second (sym s.same_refusal ∙ opening) in
             record {
-              book_is =
-                  ap (λ (u : Updated). u.book)
-                  (result ∙ ap (λ (n : ℕ). result_of (open_row_call 1 n times second row)) slots_are ∙ s.same_result ∙ gives.0);
-              ring_is = ring_left_lem ∙ ap (λ (n : ℕ). (left_of (open_row_call 1 n times second row)).ring) slots_are ∙ s.same_ring ∙ gives.1;
-              row_is = row_left_lem ∙ ap (λ (n : ℕ). (left_of (open_row_call 1 n times second row)).row) slots_are ∙ b.row_after opening;
+              book_is = opened_is;
+              ring_is =
+                  ring_left_lem ∙ ap (λ (n : ℕ). (left_of (open_row_call 1 n times second row)).ring) slots_are ∙ own_opening.same_ring
+                  ∙ (open_gives 1 (slots_of book) times second (sym own_opening.same_refusal ∙ opening)).1;
+              row_is =
+                  row_left_lem ∙ ap (λ (n : ℕ). (left_of (open_row_call 1 n times second row)).row) slots_are
+                  ∙ (open_beside 1 (slots_of book) times second row).row_after opening;
               row_long = ap length row_left_lem ∙ (open_leaves_rest 1 shape.slots times second row).same_length;
             }
 
-        pub takes : Takes opened.book (length second') (length row')
+        pub takes : Takes opened (length second') (length row')
         takes =
             let entries = ap entries_for (new_slots book ranges times can) in
             rw (fresh.book_is, fresh.ring_is)
@@ -153,9 +155,9 @@ module _ (book : Book) (ring : List ℕ) (times : ℕ) (second row : List ℕ) w
             })
 
         -- it takes the old quotients
-        module _ {all : Book} {second'' row'' : List ℕ} (all_is : all ≡ added_all opened.book (quotients book ring blocks))
-            (ring_is : second'' ≡ added_all_ring opened.book second' (quotients book ring blocks))
-            (row_is : row'' ≡ added_all_row opened.book second' row' (quotients book ring blocks)) where
+        module _ {all : Book} {second'' row'' : List ℕ} (all_is : all ≡ added_all opened (quotients book ring blocks))
+            (ring_is : second'' ≡ added_all_ring opened second' (quotients book ring blocks))
+            (row_is : row'' ≡ added_all_row opened second' row' (quotients book ring blocks)) where
           tallied : all ≡ tally book ring times
           unfolding tally
           tallied = all_is ∙ (λ i. added_all (fresh.book_is i) (quotients book ring (blocks_are i)))

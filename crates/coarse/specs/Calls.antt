@@ -9,7 +9,7 @@ use Rattle.book.specs.Derived.{slot_count, bytes_needed}
 use Rattle.book.specs.Calls.{room_fault, book_faults}
 use Rattle.sums.specs.Row.{entries_for}
 use Rattle.sums.specs.Calls.{RingAndRow, row_fault, with_row}
-use Rattle.coarse.specs.declared.Coarser.{Coarser}
+use Rattle.coarse.specs.declared.told.Coarser.{Coarser}
 use Rattle.coarse.specs.Coarsens.{fewest_times, most_times}
 use Rattle.coarse.specs.Coarser.{coarsened, coarsened_ring, coarsened_row}
 

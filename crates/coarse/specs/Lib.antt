@@ -4,3 +4,4 @@ pub mod Coarsens
 pub mod Calls
 pub mod Steps
 pub mod Histories
+pub mod Told

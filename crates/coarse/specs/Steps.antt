@@ -6,6 +6,7 @@ use Rattle.book.specs.declared.shape.Shape.{Shape}
 use Rattle.book.specs.Resting.{awake}
 use Rattle.book.specs.Record.{width_of, shape_for}
 use Rattle.book.specs.Sound.{Usable}
+use Rattle.book.specs.Ready.{Ready}
 use Rattle.sums.specs.Row.{entries_of}
 use Rattle.sums.specs.Calls.{row_fault}
 use Rattle.coarse.specs.declared.judge.Judged.{Judged}
@@ -15,10 +16,11 @@ use Rattle.coarse.specs.Calls.{coarser_bytes, coarser_entries, coarse_faults}
 abbrev pub row_faults : Book → ℕ → ℕ → ℕ → ℕ → List Fault
 row_faults book lent times second row = coarse_faults book lent times second ++ row_fault (coarser_entries book times) row ∷ []
 
--- what is known once that is asked: the refusal, and without one the bytes that the second ring takes
-pub record Asked (book : Book) (lent times second row : ℕ) (judged : Judged) : Type 0 where
-  pub refusal_is : judged.refusal ≡ first_of (row_faults book lent times second row)
-  pub bytes_are : judged.refusal ≡ 0 → judged.bytes ≡ coarser_bytes book times
+-- what is known once that is asked and nothing is refused
+pub record Passed (book : Book) (lent times second row : ℕ) (judged : Judged) : Type 0 where
+  pub nothing : 0 ≡ first_of (row_faults book lent times second row)
+  pub ready : Ready book judged.shape lent
+  pub bytes_are : judged.bytes ≡ coarser_bytes book times
 
 -- a book with its numbers, a ring of so many bytes and slots of one bit
 pub record OneBit (book : Book) (shape : Shape) (lent : ℕ) : Type 0 where

@@ -5,19 +5,20 @@
 
 ghost use Rattle.std.specs.Prelude.{◌≡◌, ◌+◌, ◌*◌};
 ghost use Rattle.refusals.specs.Call.{result_of, left_of};
+ghost use Rattle.coarse.specs.Told.{as_coarser};
 ghost use Rattle.coarse.specs.Calls.{coarsen_call, coarsen_row_call};
 ghost use Rattle.coarse.specs.Steps.{Small};
 
 use book::Book;
+use refusals::Refusal;
 
 mod judge;
 mod tally;
+pub mod told;
 
-// A refusal number, 0 for none; the bytes that the new ring takes, 0 at a refusal; and the record to go on with.
-#[repr(C)]
+// The bytes that the new ring takes, and the record to go on with.
 #[derive(Clone, Copy)]
-pub struct Coarser {
-    pub refusal: u8,
+pub struct Coarsened {
     pub bytes: u64,
     pub book: Book,
 }
@@ -26,8 +27,8 @@ pub struct Coarser {
 const MOST_ENTRIES: usize = 64;
 
 // Makes a book coarser. This is the call with a row, with a row that is then let go of.
-pub fn coarsen(book: Book, ring: &[u8], times: u64, second: &mut [u8]) -> Coarser
-    ensures { (result ≡ result_of (coarsen_call book ring.now times second.old)) × (second.new ≡ left_of (coarsen_call book ring.now times second.old)) }
+pub fn coarsen(book: Book, ring: &[u8], times: u64, second: &mut [u8]) -> Result<Coarsened, Refusal>
+    ensures { (as_coarser book result ≡ result_of (coarsen_call book ring.now times second.old)) × (second.new ≡ left_of (coarsen_call book ring.now times second.old)) }
 {
     let mut row: [u32; MOST_ENTRIES] = [0; MOST_ENTRIES];
     coarsen_row(book, ring, times, second, &mut row)
@@ -40,33 +41,19 @@ pub fn coarsen_row(
     times: u64,
     second: &mut [u8],
     row: &mut [u32],
-) -> Coarser
-    ensures { (result ≡ result_of (coarsen_row_call book ring.now times second.old row.old)) × (second.new ≡ (left_of (coarsen_row_call book ring.now times second.old row.old)).ring) × (row.new ≡ (left_of (coarsen_row_call book ring.now times second.old row.old)).row) }
+) -> Result<Coarsened, Refusal>
+    ensures { (as_coarser book result ≡ result_of (coarsen_row_call book ring.now times second.old row.old)) × (second.new ≡ (left_of (coarsen_row_call book ring.now times second.old row.old)).ring) × (row.new ≡ (left_of (coarsen_row_call book ring.now times second.old row.old)).row) }
 {
-    let judged = judge::coarser(
-        book,
-        ring,
-        times,
-        judge::count(second.len()),
-        judge::count(row.len()),
-    );
-    if judged.refusal != 0 {
-        return Coarser {
-            refusal: judged.refusal,
-            bytes: 0,
-            book,
-        };
-    }
-    let shape = book::shape::derive(book.bound, book.length, book.tolerance).shape;
-    let fresh = sums::open(1, shape.slots, times, second, row).book;
+    let judged = judge::coarser(book, ring.len(), times, second.len(), row.len())?;
+    let shape = judged.shape;
+    let fresh = sums::open(1, shape.slots, times, second, row).unwrap();
     let blocks = (book.kept - book.phase) / shape.block;
     let all = tally::all(book, shape, ring, blocks, fresh, second, row);
     let next = with_tally(book, times, shape.block, blocks, all);
-    Coarser {
-        refusal: 0,
+    Ok(Coarsened {
         bytes: judged.bytes,
         book: next,
-    }
+    })
 }
 
 // The record of the coarser book: the old one's, with what the tally counts.
@@ -75,13 +62,11 @@ fn with_tally(book: Book, times: u64, block: u64, blocks: u64, tally: Book) -> B
     ensures { result ≡ record { bound = book.bound; length = book.length; tolerance = times * book.tolerance; carry = book.carry + book.tolerance * tally.carry; phase = book.phase + tally.phase * block; kept = book.phase + blocks * block; head = tally.head; resting = book.resting } }
 {
     Book {
-        bound: book.bound,
-        length: book.length,
         tolerance: times * book.tolerance,
         carry: book.carry + book.tolerance * tally.carry,
         phase: book.phase + tally.phase * block,
         kept: book.phase + blocks * block,
         head: tally.head,
-        resting: book.resting,
+        ..book
     }
 }

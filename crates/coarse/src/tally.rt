@@ -11,38 +11,32 @@ ghost use Rattle.coarse.specs.Steps.{OneBit, Takes};
 
 use book::Book;
 use book::shape::Shape;
+use sums::totals::oldest;
 
-// The quotients of a part: as many as its array has places.
-const PART: u64 = 64;
+// The quotients of a part: a run of so many is judged once.
+const PART: usize = 64;
 
 // The quotient of the j-th newest block, by the ring's own reading.
 fn quotient(shape: Shape, ring: &[u8], head: u64, j: u64) -> u64
-    requires { Lent shape.width shape.slots (length ring.now) × (head < shape.slots) × (1 ≤ j) × (j ≤ shape.slots) }
+    requires { Lent shape.width shape.slots (length ring.now) × (head < shape.slots) × (j ≤ shape.slots) }
     ensures { result ≡ field shape.width ring.now (newest shape.slots head j) }
 {
-    let slot = if j <= head {
-        head - j
-    } else {
-        head + shape.slots - j
-    };
     ring::read(
         shape.width as usize,
         shape.slots as usize,
         ring,
-        slot as usize,
+        oldest(shape.slots, head, j) as usize,
     )
-    .value
+    .unwrap()
 }
 
-// The quotients of the j newest blocks, the oldest first: the first n of them go into the first n places.
-fn gather(book: Book, shape: Shape, ring: &[u8], j: u64, part: &mut [u64], n: u64)
-    requires { OneBit book shape (length ring.now) × (j ≤ slots_of book) × (n ≤ j) × (n ≤ length part.old) }
-    ensures { take n part.new ≡ take n (quotients book ring.now j) }
+// The first quotients of the j newest blocks, the oldest first, as many as there are places.
+fn gather(book: Book, shape: Shape, ring: &[u8], j: usize, part: &mut [u64])
+    requires { OneBit book shape (length ring.now) × (j ≤ slots_of book) × (length part.old ≤ j) }
+    ensures { part.new ≡ take (length part.old) (quotients book ring.now j) }
 {
-    let mut i = 0;
-    while i < n {
-        part[i as usize] = quotient(shape, ring, book.head, j - i);
-        i += 1;
+    for (i, place) in part.iter_mut().enumerate() {
+        *place = quotient(shape, ring, book.head, (j - i) as u64);
     }
 }
 
@@ -60,14 +54,13 @@ pub(crate) fn all(
     ensures { (result ≡ added_all fresh (quotients book ring.now blocks)) × (second.new ≡ added_all_ring fresh second.old (quotients book ring.now blocks)) × (row.new ≡ added_all_row fresh second.old row.old (quotients book ring.now blocks)) }
 {
     let mut tally = fresh;
-    let mut left = blocks;
+    let mut left = blocks as usize;
     while 0 < left {
-        let mut part: [u64; 64] = [0; 64];
-        let n = if left < PART { left } else { PART };
-        gather(book, shape, ring, left, &mut part, n);
-        let end = n as usize;
-        tally = sums::run(tally, second, row, &part[..end]).book;
-        left -= n;
+        let mut places: [u64; PART] = [0; PART];
+        let part = &mut places[..left.min(PART)];
+        gather(book, shape, ring, left, part);
+        tally = sums::run(tally, second, row, part).unwrap();
+        left -= part.len();
     }
     tally
 }

@@ -19,14 +19,10 @@ between low high n = by (leb low n) (leb n high) refl refl
   where
     by : (over under : Bool) → leb low n ≡ over → leb n high ≡ under → (over && under) ≡ true → (low ≤ n) × (n ≤ high)
     by true true l h e = (leb-true low n l, leb-true n high h)
-    by true false l h e = let z : ◌≡◌ {A = ℕ} 0 1 = cc in absurd (omega arith)
-    by false under l h e = let z : ◌≡◌ {A = ℕ} 0 1 = cc in absurd (omega arith)
+    by true false l h e = cc
+    by false under l h e = cc
 
 -- the bytes that are digits, and those below them
-pub digit_tests : (byte : ℕ) → digit byte ≡ (leb zero_byte byte && leb byte nine_byte)
-unfolding digit
-digit_tests byte = refl
-
 pub digit_range : (byte : ℕ) → digit byte ≡ true → (zero_byte ≤ byte) × (byte ≤ nine_byte)
 unfolding digit
 digit_range byte e = between zero_byte nine_byte byte e

@@ -9,8 +9,8 @@ use Rattle.bits.specs.Row.{bits}
 use Rattle.bits.specs.Bytes.{Bytes}
 use Rattle.refusals.specs.Call.{refusal_of}
 use Rattle.book.specs.declared.Book.{Book}
-use Rattle.book.specs.declared.Updated.{Updated}
-use Rattle.book.specs.declared.Ran.{Ran}
+use Rattle.book.specs.declared.told.Updated.{Updated}
+use Rattle.book.specs.declared.told.Ran.{Ran}
 use Rattle.book.specs.Derived.{slot_count, field_width}
 use Rattle.book.specs.Record.{slots_of, width_of}
 use Rattle.book.specs.Sound.{Usable}

@@ -9,7 +9,7 @@ use Rattle.refusals.specs.Call.{refusal_of}
 use Rattle.refusals.proofs.Calls.{result_refused}
 use Rattle.book.specs.declared.Book.{Book}
 use Rattle.sums.specs.Calls.{RingAndRow}
-use Rattle.coarse.specs.declared.Coarser.{Coarser}
+use Rattle.coarse.specs.declared.told.Coarser.{Coarser}
 use Rattle.coarse.specs.Coarsens.{Coarsens}
 use Rattle.coarse.specs.Coarser.{coarsened}
 use Rattle.coarse.specs.Calls.{coarser_bytes, coarser_entries, coarsen_call, coarsen_row_call}

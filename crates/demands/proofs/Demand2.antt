@@ -6,7 +6,7 @@ use native.Mathlib.Omega.{arith}
 use mathlib.Core.List.{List}
 use mathlib.Core.Path.{◌≡◌, ap}
 use Rattle.book.specs.declared.Book.{Book}
-use Rattle.book.specs.declared.Figure.{Figure}
+use Rattle.book.specs.declared.told.Figure.{Figure}
 use Rattle.book.specs.Record.{held_in}
 use Rattle.book.specs.Figure.{figure}
 use Rattle.book.proofs.Promises.{total_taken, total_gives}

@@ -8,7 +8,7 @@ use mathlib.Core.Path.{◌≡◌, sym, ap, ◌∙◌}
 use lib.ListN.{length}
 use Rattle.refusals.specs.Numbers.{not_reached}
 use Rattle.book.specs.declared.Book.{Book}
-use Rattle.book.specs.declared.Window.{Window}
+use Rattle.book.specs.declared.told.Window.{Window}
 use Rattle.book.specs.Sound.{Usable}
 use Rattle.book.specs.Figure.{figure}
 use Rattle.book.specs.HowFar.{Smallest, NoWindow, Found}

@@ -10,19 +10,19 @@ use Rattle.refusals.specs.Call.{Call, refusal_of, result_of, left_of}
 use Rattle.refusals.proofs.Calls.{result_refused, left_refused, result_asked, left_asked}
 use Rattle.ring.specs.Slot.{cleared}
 use Rattle.book.specs.declared.Book.{Book}
-use Rattle.book.specs.declared.Updated.{Updated}
+use Rattle.book.specs.declared.told.Updated.{Updated}
 use Rattle.book.specs.Derived.{field_width, slot_count, bytes_needed}
 use Rattle.book.specs.Resting.{awake, at_rest, marked}
 use Rattle.book.specs.Record.{opened}
 use Rattle.book.specs.Sound.{Ranges, Usable}
 use Rattle.book.specs.Adding.{added, added_ring}
 use Rattle.book.proofs.Promises.{open_known, open_gives, add_known, add_gives, mark_gives}
-use Rattle.coarse.specs.declared.Coarser.{Coarser}
+use Rattle.coarse.specs.declared.told.Coarser.{Coarser}
 use Rattle.coarse.specs.Coarsens.{Coarsens}
 use Rattle.coarse.specs.Coarser.{coarsened, coarsened_ring}
 use Rattle.coarse.specs.Calls.{coarser_bytes}
 use Rattle.coarse.proofs.Promises.{coarsen_known, coarsen_gives}
-use Rattle.salvage.specs.declared.Salvaged.{Salvaged}
+use Rattle.salvage.specs.declared.told.Salvaged.{Salvaged}
 use Rattle.salvage.specs.Salvaged.{salvaged_ring, salvaged_record}
 use Rattle.salvage.specs.Calls.{RingAndNumbers}
 use Rattle.salvage.proofs.Promises.{salvage_known, salvage_gives}

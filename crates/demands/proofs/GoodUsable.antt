@@ -9,7 +9,7 @@ use Rattle.refusals.specs.Numbers.{window_too_long}
 use Rattle.refusals.specs.Call.{refusal_of, result_of}
 use Rattle.ring.proofs.Promises.{length_cleared}
 use Rattle.book.specs.declared.Book.{Book}
-use Rattle.book.specs.declared.verdicts.Ruling.TheVariants.{Refused}
+use Rattle.book.specs.Answers.{Refused}
 use Rattle.book.specs.Derived.{field_width, slot_count}
 use Rattle.book.specs.Resting.{awake}
 use Rattle.book.specs.Record.{held_in}

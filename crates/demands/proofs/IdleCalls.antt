@@ -8,8 +8,8 @@ use mathlib.Core.Logic.{inl, inr}
 use mathlib.Core.Path.{◌≡◌, refl}
 use Rattle.refusals.specs.Call.{Call, refusal_of, result_of, left_of, seen_as}
 use Rattle.book.specs.declared.Book.{Book}
-use Rattle.book.specs.declared.Updated.{Updated}
-use Rattle.book.specs.declared.Ran.{Ran}
+use Rattle.book.specs.declared.told.Updated.{Updated}
+use Rattle.book.specs.declared.told.Ran.{Ran}
 use Rattle.book.specs.Calls.{add_call, run_call, total_call, two_totals_call, how_far_call, verdict_call}
 use Rattle.book.proofs.Promises.{add_back, run_back, total_asks, two_totals_asks, far_asks, verdict_asks}
 use Rattle.trend.specs.Trend.{trend_call}

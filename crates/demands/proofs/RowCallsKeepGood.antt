@@ -8,8 +8,8 @@ use mathlib.Core.Logic.{◌⊎◌, inl, inr}
 use mathlib.Core.Path.{◌≡◌, refl, ◌∙◌}
 use Rattle.refusals.specs.Call.{Call, refusal_of, result_of, left_of, seen_as}
 use Rattle.book.specs.declared.Book.{Book}
-use Rattle.book.specs.declared.Updated.{Updated}
-use Rattle.book.specs.declared.Ran.{Ran}
+use Rattle.book.specs.declared.told.Updated.{Updated}
+use Rattle.book.specs.declared.told.Ran.{Ran}
 use Rattle.book.specs.Resting.{awake}
 use Rattle.book.specs.RunOfCounts.{any_above}
 use Rattle.book.proofs.Promises.{add_taken, run_taken}

@@ -10,23 +10,23 @@ use lib.ListN.{length}
 use Rattle.refusals.specs.Call.{refusal_of, result_of, left_of}
 use Rattle.refusals.proofs.Calls.{result_refused}
 use Rattle.book.specs.declared.Book.{Book}
-use Rattle.book.specs.declared.Figure.{Figure}
-use Rattle.book.specs.declared.Updated.{Updated}
+use Rattle.book.specs.declared.told.Figure.{Figure}
+use Rattle.book.specs.declared.told.Updated.{Updated}
 use Rattle.book.specs.Derived.{slot_count}
 use Rattle.book.specs.Resting.{awake, at_rest}
 use Rattle.book.specs.Record.{slots_of, held_in}
 use Rattle.book.specs.Adding.{added}
 use Rattle.book.specs.Calls.{mark_call, total_call}
 use Rattle.book.proofs.Promises.{open_known, open_gives, add_known, add_gives, added_same, mark_gives, total_known, total_gives, total_number, total_hands_back}
-use Rattle.sums.specs.declared.Summed.{Summed}
+use Rattle.sums.specs.declared.told.Summed.{Summed}
 use Rattle.sums.specs.Row.{entries_for, entries_of}
 use Rattle.sums.specs.RowKept.{RowKept}
 use Rattle.sums.specs.Calls.{RingAndRow, open_row_call, add_row_call, total_row_call}
 use Rattle.sums.proofs.Promises.{open_beside, add_beside, open_leaves_rest, add_leaves_rest, kept_by_opening, kept_by_adding, figure_same, total_beside, total_row_gives, total_row_number, total_row_refused}
-use Rattle.coarse.specs.declared.Coarser.{Coarser}
+use Rattle.coarse.specs.declared.told.Coarser.{Coarser}
 use Rattle.coarse.specs.Calls.{coarsen_row_call}
 use Rattle.coarse.proofs.Promises.{coarsen_known, coarsen_gives, coarsen_beside, coarsened_row_lem}
-use Rattle.salvage.specs.declared.Salvaged.{Salvaged}
+use Rattle.salvage.specs.declared.told.Salvaged.{Salvaged}
 use Rattle.salvage.specs.Salvaged.{salvaged_ring}
 use Rattle.salvage.specs.Calls.{RingAndNumbers, RingNumbersAndRow, salvage_row_call}
 use Rattle.salvage.specs.After.{book_after, ring_after, book_after_row, both_after}

@@ -12,7 +12,7 @@ use Rattle.refusals.specs.Call.{Call, refusal_of, result_of, left_of}
 use Rattle.ring.specs.Slot.{cleared}
 use Rattle.ring.proofs.Promises.{cleared_rest, cleared_tail, bytes_cleared, tail_stays, rest_stays_drop, bytes_written}
 use Rattle.book.specs.declared.Book.{Book}
-use Rattle.book.specs.declared.Updated.{Updated}
+use Rattle.book.specs.declared.told.Updated.{Updated}
 use Rattle.book.specs.Derived.{field_width, slot_count}
 use Rattle.book.specs.Resting.{awake, at_rest, marked}
 use Rattle.book.specs.Record.{block_of, slots_of, width_of, bytes_of, opened}

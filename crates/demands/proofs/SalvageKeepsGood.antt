@@ -8,7 +8,7 @@ use Rattle.refusals.specs.Call.{refusal_of, result_of, left_of}
 use Rattle.book.specs.declared.Book.{Book}
 use Rattle.sums.specs.Calls.{RingAndRow, add_row_call}
 use Rattle.sums.specs.OneByOne.{OneByOne, none, first}
-use Rattle.salvage.specs.declared.Salvaged.{Salvaged}
+use Rattle.salvage.specs.declared.told.Salvaged.{Salvaged}
 use Rattle.salvage.specs.Altered.{how_new}
 use Rattle.salvage.specs.Salvaged.{kept_for}
 use Rattle.salvage.specs.Calls.{salvage_call, salvage_row_call}

@@ -9,8 +9,8 @@ use Rattle.book.specs.declared.Book.{Book}
 use Rattle.book.specs.declared.verdicts.Verdict.{Verdict}
 use Rattle.book.specs.declared.verdicts.Verdict.TheVariants.{Live, Frozen}
 use Rattle.book.specs.declared.verdicts.Notice.{Notice}
-use Rattle.book.specs.declared.verdicts.Ruling.{Ruling}
-use Rattle.book.specs.declared.verdicts.Ruling.TheVariants.{Told}
+use Rattle.book.specs.Answers.{Ruling}
+use Rattle.book.specs.Answers.{Told}
 use Rattle.book.specs.Figure.{figure}
 use Rattle.book.specs.Verdict.{verdict_now, verdict_number, figure_in}
 use Rattle.book.proofs.Promises.{verdict_gives, verdict_at_rest, live_by, frozen_by, resting_by, by_figure, carries_figure}

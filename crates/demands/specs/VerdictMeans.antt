@@ -5,7 +5,7 @@ use Rattle.refusals.specs.Call.{result_of}
 use Rattle.book.specs.declared.Book.{Book}
 use Rattle.book.specs.declared.verdicts.Verdict.{Verdict}
 use Rattle.book.specs.declared.verdicts.Verdict.TheVariants.{Live, Frozen, Resting}
-use Rattle.book.specs.declared.verdicts.Ruling.TheVariants.{Told}
+use Rattle.book.specs.Answers.{Told}
 use Rattle.book.specs.Figure.{figure}
 use Rattle.book.specs.Verdict.{verdict_now, figure_in}
 use Rattle.book.specs.Resting.{awake}

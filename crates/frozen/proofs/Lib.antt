@@ -1,6 +1,5 @@
 pub mod Parts
 pub mod DeskLaws
-pub mod RowsRoom
 pub mod TurnsOfWatch
 pub mod OneTurn
 pub mod RoundLaws

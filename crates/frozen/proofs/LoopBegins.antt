@@ -2,15 +2,17 @@
 -- Assumes nothing.
 use Prim.Native.Nat.{ℕ, ◌≤◌}
 use mathlib.Core.List.{List, [], ◌++◌}
-use mathlib.Core.Path.{◌≡◌, refl, sym, ap, subst, ◌∙◌}
+use mathlib.Core.Path.{◌≡◌, sym, ap, subst, ◌∙◌}
 use native.Mathlib.Omega.{arith}
 use lib.ListN.{length, take, drop, length-append}
-use lib.Seq.{sets, take-append_seam}
+use lib.Seq.{take-append_seam}
+use Rattle.std.specs.Prelude.{Result, Ok}
+use Rattle.refusals.specs.declared.Refusal.{Refusal}
 use Rattle.refusals.specs.Call.{result_of, left_of}
-use Rattle.rows.specs.declared.Wrote.{Wrote}
+use Rattle.rows.specs.Told.{as_wrote}
 use Rattle.rows.specs.Row.{head_text}
 use Rattle.rows.specs.Calls.{line_most, line_call}
-use Rattle.rows.proofs.Writing.{line_written}
+use Rattle.rows.proofs.Writing.{line_given}
 use Rattle.rows.proofs.RowsFitTheirBuffer.{head_fits, line_whole}
 use Rattle.watch.specs.Output.{begins, first_state, first_ring}
 use Rattle.frozen.specs.declared.desk.Desk.{Desk}
@@ -25,12 +27,12 @@ stands_first desk ring buf places bytes =
     (record { consumed = []; written = head_text; along = record { lines = []; run = λ unread. begins } }))
 
 -- the first line is at the start of the buffer
-pub first_due : (out : List ℕ) → line_most ≤ length out → (wrote : Wrote) (out_after : List ℕ)
-    → (wrote ≡ result_of (line_call out head_text)) × (out_after ≡ left_of (line_call out head_text))
-    → (wrote.length ≤ length out_after) × Due out_after wrote.length
-first_due out room wrote out_after said =
-    let written = line_written out head_text {new = sets out 0 head_text} {next = length head_text} room (record { bytes = refl; moved = omega arith }) in
-    let many : wrote.length ≡ length head_text = ap (λ (w : Wrote). w.length) (said.0 ∙ sym written.0) in
+pub first_due : (out : List ℕ) → line_most ≤ length out → (result : Result ℕ Refusal) {out_after : List ℕ}
+    → (as_wrote result ≡ result_of (line_call out head_text)) × (out_after ≡ left_of (line_call out head_text))
+    → {wrote : ℕ} → result ≡ Ok wrote → (wrote ≤ length out_after) × Due (take wrote out_after)
+first_due out room result {out_after} said {wrote} is =
+    let given : ◌≡◌ {A = Result ℕ Refusal} (Ok wrote) (Ok (length head_text)) = sym is ∙ (line_given out head_text result room said).0 in
+    let many : wrote ≡ length head_text = cc in
     let bytes : out_after ≡ head_text ++ drop (length head_text) out = said.1 ∙ line_whole out head_text room head_fits in
     let long = ap (λ (l : List ℕ). length l) bytes ∙ length-append head_text (drop (length head_text) out) in (
       omega (arith, many, long),

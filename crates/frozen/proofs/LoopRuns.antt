@@ -5,7 +5,6 @@ use mathlib.Core.Bool.{Bool}
 use mathlib.Core.List.{List, ◌++◌, append_assoc}
 use mathlib.Core.Path.{◌≡◌, refl, sym, ap, subst, ◌∙◌}
 use native.Mathlib.Omega.{arith}
-use native.Mathlib.Decide.{ℕ_discrete}
 use lib.ListN.{length, take, drop}
 use lib.Seq.{sets-eq, take-append_seam}
 use Rattle.image.specs.Seen.{limit}
@@ -14,7 +13,9 @@ use Rattle.frozen.specs.declared.desk.Desk.{Desk}
 use Rattle.frozen.specs.declared.round.Round.{Round}
 use Rattle.frozen.specs.declared.Given.{Given}
 use Rattle.frozen.specs.Desk.{hand_in, Fits, Received}
-use Rattle.frozen.specs.Round.{read, done, turns_most, Rounded, round_of, Tells}
+use Rattle.frozen.specs.declared.round.Go.{Go}
+use Rattle.frozen.specs.declared.round.Go.TheVariants.{Again, Read, Done}
+use Rattle.frozen.specs.Round.{turns_most, Rounded, round_of, Tells}
 use Rattle.frozen.specs.Running.{moment_on, Along, Standing, Supplied, Due, rows, Complete}
 use Rattle.frozen.proofs.DeskLaws.{hand_length}
 use Rattle.frozen.proofs.RoundsRun.{Leads, round_leads}
@@ -48,13 +49,18 @@ along_read consumed written desk ring buf along after over buf_after got =
 pub record Stands (told : Round) (ring buf : List ℕ) : Type 0 where
   pub standing : Standing told.desk ring buf
   pub fits : Fits told.desk (length buf)
-  pub short : told.go ≡ read → told.desk.end - told.desk.at < limit
+  pub short : told.go ≡ Read → told.desk.end - told.desk.at < limit
+
+reads_next : (go : Go) → Dec (go ≡ Read)
+reads_next Again = no (λ e. cc)
+reads_next Read = yes refl
+reads_next Done = no (λ e. cc)
 
 pub supplied_stands : {told : Round} {ring buf : List ℕ} → Stands told ring buf → (over : Bool) (given : Given) (buf_after : List ℕ)
     → Supplied told buf over given buf_after → Standing given.desk ring buf_after × Fits given.desk (length buf_after)
-supplied_stands {told} {ring} {buf} stands over given buf_after supplied = by (ℕ_discrete told.go read)
+supplied_stands {told} {ring} {buf} stands over given buf_after supplied = by (reads_next told.go)
   where
-    by : Dec (told.go ≡ read) → Standing given.desk ring buf_after × Fits given.desk (length buf_after)
+    by : Dec (told.go ≡ Read) → Standing given.desk ring buf_after × Fits given.desk (length buf_after)
     by (yes e) =
         let got = supplied.0 e in
         let s = stands.standing in (
@@ -92,7 +98,7 @@ module _ {desk : Desk} {ring buf out : List ℕ} (over : Bool) (standing : Stand
   lies : Fits told.desk (length buf)
   lies = subst (λ (d : Desk). Fits d (length buf)) (sym places) leads.fits
 
-  pub round_stands : (told.go ≡ done → ⊥) → Stands told ring_after buf
+  pub round_stands : (told.go ≡ Done → ⊥) → Stands told ring_after buf
   round_stands on =
       let along = leads.along (λ e. on (go_is ∙ e)) in
       record {
@@ -117,10 +123,10 @@ module _ {desk : Desk} {ring buf out : List ℕ} (over : Bool) (standing : Stand
         ap (λ (l : List ℕ). take (length rounded.text) l) (tells.rows ∙ sets-eq rounded.text out 0 (omega (arith, full_is)))
         ∙ take-append_seam rounded.text (drop (0 + length rounded.text) out)
 
-    pub round_due : Due out_after told.full
+    pub round_due : Due (take told.full out_after)
     round_due = rows desk ring buf over standing (ap (λ (k : ℕ). take k out_after) full_is ∙ rows_there)
 
     -- where the program ends, the output is whole
-    pub round_complete : told.go ≡ done → Complete buf out_after
+    pub round_complete : told.go ≡ Done → Complete buf out_after
     round_complete e =
         record { desk = desk; ring = ring; over = over; stood = standing; there = rows_there; whole = leads.whole (sym go_is ∙ e) }

@@ -1,11 +1,11 @@
 -- A part of a list, `take k (drop a l)`: where only the bytes behind it change, where it is cut in two, and where it is moved.
 -- Assumes nothing.
-use Prim.Native.Nat.{ℕ, suc, ◌+◌, ◌-◌, ◌≤◌, ◌<◌}
+use Prim.Native.Nat.{ℕ, ◌+◌, ◌-◌, ◌≤◌}
 use mathlib.Core.List.{List, [], ◌++◌, append_assoc, append-nil}
 use mathlib.Core.Path.{◌≡◌, sym, ap, ◌∙◌}
 use native.Mathlib.Omega.{arith}
-use lib.ListN.{length, take, drop, set, get_or, take-append-drop, length-drop}
-use lib.Seq.{length-take-le, take-append-le, drop-append-le, drop_at, take-add, drop-drop, get_or-drop, sets, sets-eq, take_all, drop-length, paste, paste-suc, drop-paste}
+use lib.ListN.{length, take, drop, take-append-drop, length-drop}
+use lib.Seq.{length-take-le, take-append-le, drop-append-le, drop_at, take-add, drop-drop, sets, sets-eq, take_all, drop-length, paste}
 use borrow.Rule.Slice.PartMut.{mid_of, post_of, put_mid}
 
 -- a part of the front is the same whatever lies behind
@@ -56,21 +56,3 @@ put_sets out text at h =
     ∙ ap (λ (l : List ℕ). take at out ++ (text ++ l)) (drop-drop (length text) at out)
     ∙ sym (append_assoc (take at out) text (drop (at + length text) out))
     ∙ sym (sets-eq text out at h)
-
--- A turn of the loop that moves: the byte to be moved has not been written over yet
-pub move_step : (buf : List ℕ) (from i : ℕ) → from + i < length buf
-    → set (paste buf 0 (drop from buf) i) i (get_or (paste buf 0 (drop from buf) i) (from + i) 0) ≡ paste buf 0 (drop from buf) (suc i)
-move_step buf from i h =
-    let s : List ℕ = drop from buf in
-    let now : List ℕ = paste buf 0 s i in
-    let there : i < length s = rw (length-drop from buf) (omega arith) in
-    let swap : from + i ≡ 0 + i + from = omega arith in
-    let byte : get_or now (from + i) 0 ≡ get_or s i 0 =
-    ap (λ (k : ℕ). get_or now k 0) swap
-    ∙ sym (get_or-drop (0 + i) now from 0)
-    ∙ ap (λ (l : List ℕ). get_or l from 0) (drop-paste buf 0 s i (omega arith) (omega arith))
-    ∙ get_or-drop (0 + i) buf from 0
-    ∙ ap (λ (k : ℕ). get_or buf k 0) (sym swap)
-    ∙ sym (get_or-drop from buf i 0) in
-    let place : i ≡ 0 + i = omega arith in
-    ap (λ (b : ℕ). set now i b) byte ∙ ap (λ (k : ℕ). set now k (get_or s i 0)) place ∙ paste-suc buf 0 s i 0 (omega arith) there

@@ -1,18 +1,19 @@
 -- A round by its first turn; and after a turn the places fit still.
 -- Assumes nothing.
-use Prim.Native.Nat.{ℕ, zero, suc, ◌≤◌}
+use Prim.Native.Nat.{ℕ, suc, ◌≤◌}
 use mathlib.Core.Bool.{Bool}
 use mathlib.Core.List.{List}
 use mathlib.Core.Path.{◌≡◌, refl, ap}
 use native.Mathlib.Omega.{arith}
 use lib.ListN.{length}
-use Rattle.watch.specs.declared.Turn.{Turn}
-use Rattle.watch.specs.declared.Turn.TheVariants.{Row, Refused, Ends, Wait}
+use Rattle.watch.specs.Answers.{Turn, Row, Refused, Ends, Wait}
 use Rattle.watch.specs.Turn.{outcome_of}
 use Rattle.image.specs.Seen.{limit}
 use Rattle.frozen.specs.declared.desk.Desk.{Desk}
 use Rattle.frozen.specs.Desk.{last_in, hand_in, Fits}
-use Rattle.frozen.specs.Round.{again, Rounded, used_by, desk_after, turn_at, behind, goes_on, round_of}
+use Rattle.frozen.specs.declared.round.Go.{Go}
+use Rattle.frozen.specs.declared.round.Go.TheVariants.{Again, Read, Done}
+use Rattle.frozen.specs.Round.{Rounded, used_by, desk_after, turn_at, behind, goes_on, round_of}
 use Rattle.frozen.proofs.DeskLaws.{hand_length}
 use Rattle.frozen.proofs.TurnsOfWatch.{used_there}
 
@@ -42,15 +43,16 @@ module _ (desk : Desk) (ring buf : List ℕ) (over : Bool) where
   abbrev turn : Rounded
   turn = turn_at desk ring buf over
 
-  pub round_goes_on : (turns : ℕ) → turn.go ≡ again
+  pub round_goes_on : (turns : ℕ) → turn.go ≡ Again
       → round_of (suc turns) desk ring buf over ≡ behind turn.text (round_of turns turn.desk turn.ring buf over)
   unfolding round_of
-  round_goes_on turns e = ap (λ (g : ℕ). goes_on g turn (round_of turns turn.desk turn.ring buf over)) e
+  round_goes_on turns e = ap (λ (g : Go). goes_on g turn (round_of turns turn.desk turn.ring buf over)) e
 
-  pub round_stops : (turns : ℕ) → (turn.go ≡ again → ⊥) → round_of (suc turns) desk ring buf over ≡ turn
+  pub round_stops : (turns : ℕ) → (turn.go ≡ Again → ⊥) → round_of (suc turns) desk ring buf over ≡ turn
   unfolding round_of
   round_stops turns ne = by turn.go ne
     where
-      by : (go : ℕ) → (go ≡ again → ⊥) → goes_on go turn (round_of turns turn.desk turn.ring buf over) ≡ turn
-      by zero never = absurd (never refl)
-      by (suc go) never = refl
+      by : (go : Go) → (go ≡ Again → ⊥) → goes_on go turn (round_of turns turn.desk turn.ring buf over) ≡ turn
+      by Again never = absurd (never refl)
+      by Read never = refl
+      by Done never = refl

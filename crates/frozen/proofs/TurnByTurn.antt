@@ -12,7 +12,8 @@ use Rattle.rows.proofs.Writing.{sets_append}
 use Rattle.frozen.specs.declared.desk.Desk.{Desk}
 use Rattle.frozen.specs.declared.round.Round.{Round}
 use Rattle.frozen.specs.Desk.{Fits}
-use Rattle.frozen.specs.Round.{again, turns_most, rows_most, Rounded, turn_at, behind, round_of, Tells}
+use Rattle.frozen.specs.declared.round.Go.TheVariants.{Again}
+use Rattle.frozen.specs.Round.{turns_most, rows_most, Rounded, turn_at, behind, round_of, Tells}
 use Rattle.frozen.proofs.RoundLaws.{turn_fits, round_goes_on, round_stops}
 
 -- WHERE THE LOOP STANDS: the rows so far are at the start of the buffer, and there is room for a line of each turn left
@@ -23,11 +24,11 @@ pub record SoFar (whole : Rounded) (buf : List ℕ) (over : Bool) (ring₀ out�
   pub rows : out ≡ sets out₀ 0 text
   pub room : now.full + line_most * left ≤ rows_most
   pub fits : Fits now.desk (length buf)
-  pub going : now.go ≡ again
+  pub going : now.go ≡ Again
   pub ring_length_lem : length ring ≡ length ring₀
 
 pub so_far_begins : (desk : Desk) (ring buf : List ℕ) (over : Bool) (out : List ℕ) → Fits desk (length buf)
-    → SoFar (round_of turns_most desk ring buf over) buf over ring out ring out (record { desk = desk; full = 0; go = again }) turns_most
+    → SoFar (round_of turns_most desk ring buf over) buf over ring out ring out (record { desk = desk; full = 0; go = Again }) turns_most
 so_far_begins desk ring buf over out fits =
     record { text = []; rest = refl; full = refl; rows = refl; room = omega arith; fits = fits; going = refl; ring_length_lem = refl }
 
@@ -77,7 +78,7 @@ module _ {whole : Rounded} {buf : List ℕ} {over : Bool} {ring₀ out₀ ring o
         ∙ sym (length-append so.text taken.text)
 
     -- a turn that is followed by another
-    pub so_far_goes_on : answer.go ≡ again → length ring_after ≡ length ring → SoFar whole buf over ring₀ out₀ ring_after out_after answer n
+    pub so_far_goes_on : answer.go ≡ Again → length ring_after ≡ length ring → SoFar whole buf over ring₀ out₀ ring_after out_after answer n
     so_far_goes_on go same =
         let next = round_of n taken.desk taken.ring buf over in
         record {
@@ -104,7 +105,7 @@ module _ {whole : Rounded} {buf : List ℕ} {over : Bool} {ring₀ out₀ ring o
         }
 
     -- and one that is not
-    pub so_far_stops : (answer.go ≡ again → ⊥) → Tells whole out₀ 0 answer ring_after out_after × (answer.full ≤ rows_most)
+    pub so_far_stops : (answer.go ≡ Again → ⊥) → Tells whole out₀ 0 answer ring_after out_after × (answer.full ≤ rows_most)
     so_far_stops stop =
         let is : whole ≡ behind so.text taken =
         left_is ∙ ap (λ (r : Rounded). behind so.text r) (round_stops now.desk ring buf over n (λ e. stop (go_is ∙ e))) in

@@ -11,33 +11,19 @@ use lib.Dec.{ltb}
 use lib.ListN.{length, take, drop, take-append-drop}
 use lib.Seq.{length-take-le}
 use Rattle.image.specs.Seen.{limit}
-use Rattle.rows.specs.declared.Scored.{Scored}
+use Rattle.watch.specs.Answers.{Turn, Row, Refused, Ends, Wait}
 use Rattle.watch.specs.declared.State.{State}
 use Rattle.watch.specs.declared.Line.{Line}
-use Rattle.watch.specs.declared.Turn.{Turn}
-use Rattle.watch.specs.declared.Turn.TheVariants.{Row, Refused, Ends, Wait}
-use Rattle.watch.specs.Turn.{Outcome, shown_of, decided_of, outcome_of}
-use Rattle.watch.proofs.OutcomeCases.{shown_cases, counted_cases, decided_cases, outcome_cases}
-use Rattle.watch.proofs.Streaming.{wait_no_row, refused_no_wait, wait_short, outcome_stays, row_used}
+use Rattle.watch.specs.Turn.{Outcome, outcome_of}
+use Rattle.watch.proofs.OutcomeCases.{outcome_cases}
+use Rattle.watch.proofs.Streaming.{decided_no_wait, wait_short, outcome_stays, row_used}
 use Rattle.frozen.specs.Round.{used_by}
-
--- an image that decides is no wait
-shown_no_wait : (state : State) (ring : List ℕ) (scored : Scored) (used : ℕ) → shown_of state ring scored used ≡ Wait → ⊥
-shown_no_wait state ring scored used =
-    shown_cases state ring scored used (λ t. t ≡ Wait → ⊥) (λ none e. wait_no_row (sym e)) (λ refused e. refused_no_wait e)
-
-decided_no_wait : (state : State) (ring last rest : List ℕ) → (decided_of state ring last rest).turn ≡ Wait → ⊥
-decided_no_wait state ring last rest =
-    decided_cases state ring last rest (λ o. o.turn ≡ Wait → ⊥) (λ refused e. refused_no_wait e)
-    (λ taken first. shown_no_wait _ _ _ _)
-    (λ taken later. counted_cases state ring last _ (λ o. o.turn ≡ Wait → ⊥) (λ refused e. refused_no_wait e) (λ refused e. refused_no_wait e)
-    (λ scored added. shown_no_wait _ _ _ _))
 
 module _ (state : State) (ring last rest : List ℕ) (over : Bool) where
   pub wait_leaves : (outcome_of state ring last rest over).turn ≡ Wait → (over ≡ false) × ((outcome_of state ring last rest over).ring ≡ ring)
   wait_leaves =
       outcome_cases state ring last rest over (λ o. o.turn ≡ Wait → (over ≡ false) × (o.ring ≡ ring)) (λ go why e. (go, refl))
-      (λ done none e. absurd (let z : ◌≡◌ {A = ℕ} 0 1 = cc in omega arith)) (λ some whole e. absurd (decided_no_wait state ring last rest e))
+      (λ done none e. absurd cc) (λ some whole e. absurd (decided_no_wait state ring last rest e))
 
   -- the first 24,576 bytes give the same row
   pub row_within : (line : Line) → (outcome_of state ring last rest over).turn ≡ Row line → line.used ≤ limit

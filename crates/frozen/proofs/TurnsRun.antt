@@ -9,9 +9,8 @@ use native.Mathlib.Omega.{arith}
 use lib.ListN.{length, take, drop, length-drop}
 use lib.Seq.{take-take, drop-drop}
 use Rattle.image.specs.Seen.{limit}
+use Rattle.watch.specs.Answers.{Turn, Row, Refused, Ends, Wait}
 use Rattle.watch.specs.declared.Line.{Line}
-use Rattle.watch.specs.declared.Turn.{Turn}
-use Rattle.watch.specs.declared.Turn.TheVariants.{Row, Refused, Ends, Wait}
 use Rattle.watch.specs.Turn.{Outcome, outcome_of}
 use Rattle.watch.specs.Calls.{step_text}
 use Rattle.watch.specs.Output.{Moment, Runs, reads, turns, after_read, outcome_at, output_of}
@@ -19,7 +18,8 @@ use Rattle.watch.proofs.Streaming.{wait_short, outcome_stays, row_used, row_eith
 use Rattle.watch.proofs.Whole.{end_right}
 use Rattle.frozen.specs.declared.desk.Desk.{Desk}
 use Rattle.frozen.specs.Desk.{last_in, hand_in, Fits}
-use Rattle.frozen.specs.Round.{again, read, done, desk_after, go_after, turn_at}
+use Rattle.frozen.specs.declared.round.Go.TheVariants.{Again, Read, Done}
+use Rattle.frozen.specs.Round.{desk_after, go_after, turn_at}
 use Rattle.frozen.specs.Running.{moment_on, Along, WholeOutput}
 use Rattle.frozen.proofs.Parts.{drop_take}
 use Rattle.frozen.proofs.DeskLaws.{hand_length}
@@ -75,12 +75,12 @@ module _ (consumed written : List ℕ) (desk : Desk) (ring buf : List ℕ) (over
       }
 
   -- where the program goes on, the moment after the turn stands on the desk
-  pub turn_along : ((turn_at desk ring buf over).go ≡ done → ⊥)
+  pub turn_along : ((turn_at desk ring buf over).go ≡ Done → ⊥)
       → Along consumed (written ++ (turn_at desk ring buf over).text) (turn_at desk ring buf over).desk (turn_at desk ring buf over).ring buf
   unfolding turn_at
   turn_along = by outcome.turn refl
     where
-      by : (turn : Turn) → outcome.turn ≡ turn → (go_after turn ≡ done → ⊥)
+      by : (turn : Turn) → outcome.turn ≡ turn → (go_after turn ≡ Done → ⊥)
           → Along consumed (written ++ step_text desk.state turn) (desk_after desk turn) outcome.ring buf
       by (Row line) row on = row_along line row
       by (Refused refusal) e on = absurd (on refl)
@@ -120,23 +120,23 @@ module _ (consumed written : List ℕ) (desk : Desk) (ring buf : List ℕ) (over
       by true o = last_over o none unread (all o)
       by false o = last_anyway o none goes unread
 
-  pub turn_whole : (turn_at desk ring buf over).go ≡ done → WholeOutput consumed (written ++ (turn_at desk ring buf over).text) over
+  pub turn_whole : (turn_at desk ring buf over).go ≡ Done → WholeOutput consumed (written ++ (turn_at desk ring buf over).text) over
   unfolding turn_at
   turn_whole ends =
-      last_turn (λ line row. let go : again ≡ done = sym (ap go_after row) ∙ ends in omega arith)
-      (λ wait. let go : read ≡ done = sym (ap go_after wait) ∙ ends in omega arith)
+      last_turn (λ line row. let go : Again ≡ Done = sym (ap go_after row) ∙ ends in cc)
+      (λ wait. let go : Read ≡ Done = sym (ap go_after wait) ∙ ends in cc)
 
 -- where the program is to read, the input is not over, and fewer bytes are at hand than an image may have
-pub turn_waits : (desk : Desk) (ring buf : List ℕ) (over : Bool) → (turn_at desk ring buf over).go ≡ read
+pub turn_waits : (desk : Desk) (ring buf : List ℕ) (over : Bool) → (turn_at desk ring buf over).go ≡ Read
     → (over ≡ false) × (length (hand_in buf (turn_at desk ring buf over).desk) < limit)
 unfolding turn_at
 turn_waits desk ring buf over = by (outcome_of desk.state ring (last_in buf desk) (hand_in buf desk) over).turn refl
   where
-    by : (turn : Turn) → (outcome_of desk.state ring (last_in buf desk) (hand_in buf desk) over).turn ≡ turn → go_after turn ≡ read
+    by : (turn : Turn) → (outcome_of desk.state ring (last_in buf desk) (hand_in buf desk) over).turn ≡ turn → go_after turn ≡ Read
         → (over ≡ false) × (length (hand_in buf (desk_after desk turn)) < limit)
-    by (Row line) e go = absurd (omega arith)
-    by (Refused refusal) e go = absurd (omega arith)
-    by Ends e go = absurd (omega arith)
+    by (Row line) e go = absurd cc
+    by (Refused refusal) e go = absurd cc
+    by Ends e go = absurd cc
     by Wait e go =
         let open_yet = (wait_leaves desk.state ring (last_in buf desk) (hand_in buf desk) over e).0 in (
           open_yet,

@@ -1,23 +1,14 @@
 -- A round: turns one after another over the bytes at hand, their rows one behind another; then the rows are written.
 use Rattle.std.specs.Prelude.{ℕ, zero, suc, ◌+◌, Bool, List, [], ◌++◌, ◌≡◌, length}
 use Rattle.std.proofs.lemmas.List.Edits.{sets}
-use Rattle.watch.specs.declared.Turn.{Turn}
-use Rattle.watch.specs.declared.Turn.TheVariants.{Row, Refused, Ends, Wait}
+use Rattle.watch.specs.Answers.{Turn, Row, Refused, Ends, Wait}
 use Rattle.watch.specs.Turn.{outcome_of}
 use Rattle.watch.specs.Calls.{step_text}
 use Rattle.frozen.specs.declared.desk.Desk.{Desk}
 use Rattle.frozen.specs.declared.round.Round.{Round}
+use Rattle.frozen.specs.declared.round.Go.{Go}
+use Rattle.frozen.specs.declared.round.Go.TheVariants.{Again, Read, Done}
 use Rattle.frozen.specs.Desk.{last_in, hand_in}
-
--- how the program goes on: with a turn more, with a read, not at all
-abbrev pub again : ℕ
-again = 0
-
-abbrev pub read : ℕ
-read = 1
-
-abbrev pub done : ℕ
-done = 2
 
 -- the turns of a round at most, and the bytes of their rows at most, 96 each
 abbrev pub turns_most : ℕ
@@ -31,7 +22,7 @@ pub record Rounded : Type 0 where
   pub desk : Desk
   pub ring : List ℕ
   pub text : List ℕ
-  pub go : ℕ
+  pub go : Go
 
 -- the desk after a turn: behind a row's image, which is the image before now; otherwise as it was
 abbrev pub desk_after : Desk → Turn → Desk
@@ -47,11 +38,11 @@ used_by (Refused refusal) = 0
 used_by Ends = 0
 used_by Wait = 0
 
-abbrev pub go_after : Turn → ℕ
-go_after (Row line) = again
-go_after (Refused refusal) = done
-go_after Ends = done
-go_after Wait = read
+abbrev pub go_after : Turn → Go
+go_after (Row line) = Again
+go_after (Refused refusal) = Done
+go_after Ends = Done
+go_after Wait = Read
 
 -- one turn: the step of watch over the image before and the bytes at hand
 unfoldable pub turn_at : Desk → (ring buf : List ℕ) → (over : Bool) → Rounded
@@ -69,13 +60,14 @@ abbrev pub behind : List ℕ → Rounded → Rounded
 behind text rounded = record { desk = rounded.desk; ring = rounded.ring; text = text ++ rounded.text; go = rounded.go }
 
 -- a turn and what follows where the program goes on with a turn more, which is after a row alone
-abbrev pub goes_on : ℕ → Rounded → Rounded → Rounded
-goes_on zero turn later = behind turn.text later
-goes_on (suc go) turn later = turn
+abbrev pub goes_on : Go → Rounded → Rounded → Rounded
+goes_on Again turn later = behind turn.text later
+goes_on Read turn later = turn
+goes_on Done turn later = turn
 
 -- a round of so many turns at most
 unfoldable pub round_of : ℕ → Desk → (ring buf : List ℕ) → (over : Bool) → Rounded
-round_of zero desk ring buf over = record { desk = desk; ring = ring; text = []; go = again }
+round_of zero desk ring buf over = record { desk = desk; ring = ring; text = []; go = Again }
 round_of (suc turns) desk ring buf over =
     let turn = turn_at desk ring buf over in
     goes_on turn.go turn (round_of turns turn.desk turn.ring buf over)

@@ -8,7 +8,8 @@ use Rattle.frozen.specs.declared.desk.Desk.{Desk}
 use Rattle.frozen.specs.declared.round.Round.{Round}
 use Rattle.frozen.specs.declared.Given.{Given}
 use Rattle.frozen.specs.Desk.{last_in, hand_in, Received}
-use Rattle.frozen.specs.Round.{read, turns_most, round_of}
+use Rattle.frozen.specs.declared.round.Go.TheVariants.{Read}
+use Rattle.frozen.specs.Round.{turns_most, round_of}
 
 -- the moment of a run that stands on the desk
 abbrev pub moment_on : Desk → (ring buf written : List ℕ) → List Line → (unread : List ℕ) → Moment
@@ -41,13 +42,13 @@ WholeOutput consumed text over = (unread : List ℕ) → (over ≡ true → unre
 -- Before a round: where the last one waits, a read; otherwise the same desk
 abbrev pub Supplied : (told : Round) (buf : List ℕ) (over : Bool) (given : Given) (buf_after : List ℕ) → Type 0
 Supplied told buf over given buf_after =
-    (told.go ≡ read → Received told.desk buf given.desk given.over buf_after)
-    × ((told.go ≡ read → ⊥) → (given ≡ record { desk = told.desk; over = over }) × (buf_after ≡ buf))
+    (told.go ≡ Read → Received told.desk buf given.desk given.over buf_after)
+    × ((told.go ≡ Read → ⊥) → (given ≡ record { desk = told.desk; over = over }) × (buf_after ≡ buf))
 
--- What is handed to write, the first n bytes of the buffer: the first line, or the rows of a round from a desk that calls stand on
-pub data Due (out : List ℕ) (n : ℕ) : Type 0 where
-  first : take n out ≡ head_text → Due out n
-  rows : (desk : Desk) (ring buf : List ℕ) (over : Bool) → Standing desk ring buf → take n out ≡ (round_of turns_most desk ring buf over).text → Due out n
+-- What is handed to write: the first line, or the rows of a round from a desk that calls stand on
+pub data Due (bytes : List ℕ) : Type 0 where
+  first : bytes ≡ head_text → Due bytes
+  rows : (desk : Desk) (ring buf : List ℕ) (over : Bool) → Standing desk ring buf → bytes ≡ (round_of turns_most desk ring buf over).text → Due bytes
 
 -- The run is complete: calls that stood on a desk, and one round more, whose rows are at the start of the buffer; what was written before it
 -- and those rows are the whole output

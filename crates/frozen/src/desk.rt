@@ -27,19 +27,12 @@ pub(crate) fn make_room(buf: &mut [u8], desk: Desk) -> Desk
     if desk.end < MOVE_AT {
         return desk;
     }
-    let from = desk.from;
-    let size = desk.end - from;
-    let mut i = 0;
-    while i < size {
-        buf[i] = buf[from + i];
-        i += 1;
-    }
-    let state = desk.state;
+    buf.copy_within(desk.from..desk.end, 0);
     Desk {
-        state,
         from: 0,
-        at: desk.at - from,
-        end: size,
+        at: desk.at - desk.from,
+        end: desk.end - desk.from,
+        ..desk
     }
 }
 
@@ -48,11 +41,8 @@ pub(crate) fn took(desk: Desk, n: usize) -> Desk
     requires { desk.end + n ≤ buffer_bytes }
     ensures { result ≡ with_more desk n }
 {
-    let state = desk.state;
     Desk {
-        state,
-        from: desk.from,
-        at: desk.at,
         end: desk.end + n,
+        ..desk
     }
 }

@@ -6,15 +6,17 @@
 mod desk;
 mod round;
 
-ghost use Rattle.std.specs.Prelude.{◌+◌, ◌-◌, ◌≤◌, ◌<◌, true, ◌≡◌, length, take};
+ghost use Rattle.std.specs.Prelude.{◌+◌, ◌-◌, ◌≤◌, ◌<◌, ◌≡◌, length, take, drop, OnOk};
+ghost use Rattle.std.specs.Io.KnownBytes.{Appends, Consumes};
 ghost use Rattle.image.specs.Seen.{limit};
 ghost use Rattle.watch.specs.Output.{no_bytes};
-ghost use Rattle.frozen.specs.Desk.{buffer_bytes, Fits, Received};
-ghost use Rattle.frozen.specs.Round.{read, rows_most};
+ghost use Rattle.frozen.specs.Desk.{Fits, Received};
+ghost use Rattle.frozen.specs.declared.round.Go.TheVariants as go;
 ghost use Rattle.frozen.specs.Running.{Standing, Supplied, Due, Complete};
 
 use desk::{BUFFER_BYTES, Desk};
-use round::{DONE, READ, Round};
+use round::{Go, Round};
+use std::io;
 use std::io::{Read, Write};
 use watch::setting::RING_BYTES;
 
@@ -32,7 +34,8 @@ struct Given {
 // fails ends the input too, and says so.
 fn fill<R: Read, E: Write>(input: &mut R, errors: &mut E, buf: &mut [u8], end: usize) -> usize
     requires { end < length buf.old }
-    ensures { (end + result ≤ length buf.old) × (take end buf.new ≡ take end buf.old) }
+    ensures place { (end + result ≤ length buf.old) × (take end buf.new ≡ take end buf.old) }
+    ensures bytes { Consumes (R.remaining input.old) (R.remaining input.new) (take result (drop end buf.new)) }
 {
     match input.read(&mut buf[end..]) {
         Ok(n) => n,
@@ -44,8 +47,13 @@ fn fill<R: Read, E: Write>(input: &mut R, errors: &mut E, buf: &mut [u8], end: u
 }
 
 // Makes room and reads. With less than an image at hand there is always room, so that nothing read means the end.
-fn receive<R: Read, E: Write>(input: &mut R, errors: &mut E, buf: &mut [u8], desk: Desk) -> Given
-    requires { Fits desk (length buf.old) × (length buf.old ≡ buffer_bytes) × (desk.end - desk.at < limit) }
+fn receive<R: Read, E: Write>(
+    input: &mut R,
+    errors: &mut E,
+    buf: &mut [u8; BUFFER_BYTES],
+    desk: Desk,
+) -> Given
+    requires { Fits desk (length buf.old) × (desk.end - desk.at < limit) }
     ensures { Received desk buf.old result.desk result.over buf.new }
 {
     let moved = desk::make_room(buf, desk);
@@ -60,87 +68,82 @@ fn receive<R: Read, E: Write>(input: &mut R, errors: &mut E, buf: &mut [u8], des
 fn supply<R: Read, E: Write>(
     input: &mut R,
     errors: &mut E,
-    buf: &mut [u8],
+    buf: &mut [u8; BUFFER_BYTES],
     told: Round,
     over: bool,
 ) -> Given
-    requires { Fits told.desk (length buf.old) × (length buf.old ≡ buffer_bytes) × (told.go ≡ read → told.desk.end - told.desk.at < limit) }
+    requires { Fits told.desk (length buf.old) × (told.go ≡ go.Read → told.desk.end - told.desk.at < limit) }
     ensures { Supplied told buf.old over result buf.new }
 {
-    let desk = told.desk;
-    if told.go == READ {
-        return receive(input, errors, buf, desk);
+    match told.go {
+        Go::Read => receive(input, errors, buf, told.desk),
+        Go::Again | Go::Done => Given {
+            desk: told.desk,
+            over,
+        },
     }
-    Given { desk, over }
 }
 
-// Writes the first bytes of a buffer; where they cannot be written it says so, and nothing is to be written after them.
-fn unsent<W: Write, E: Write>(output: &mut W, errors: &mut E, out: &[u8], n: usize) -> bool
-    requires { (n ≤ length out.now) × Due out.now n }
+// Writes the bytes; where they cannot be written it says so, and nothing is to be written after them.
+fn send<W: Write, E: Write>(output: &mut W, errors: &mut E, bytes: &[u8]) -> io::Result<()>
+    requires { Due bytes.now }
+    ensures { OnOk result (Appends (W.contents output.old) (W.contents output.new) bytes.now) }
 {
-    if output.write_all(&out[..n]).is_ok() {
-        return false;
+    let sent = output.write_all(bytes);
+    if sent.is_err() {
+        let _ = errors.write_all(b"frozen: standard output cannot be written\n");
     }
-    let _ = errors.write_all(b"frozen: standard output cannot be written\n");
-    true
+    sent
 }
 
-// Rounds, each written before the next one reads, until the input ends or is refused, or the output cannot be written. Tells whether
-// the output is whole. A counter of 64 bits stands for "for ever": each round but the last takes a byte, or reads one before it.
+// Rounds, each written before the next one reads, until the input ends or is refused, or the output cannot be written: without an
+// error the output is whole. The count of the loop stands for "for ever": each round but the last takes a byte, or reads one before it.
 fn rounds<R: Read, W: Write, E: Write>(
     input: &mut R,
     output: &mut W,
     errors: &mut E,
     desk: Desk,
-    ring: &mut [u8],
-    buf: &mut [u8],
-    out: &mut [u8],
-) -> bool
-    requires standing { Standing desk ring.old buf.old × Fits desk (length buf.old) × (desk.end - desk.at < limit) }
-    requires buf_len { (length buf.old ≡ buffer_bytes) × (rows_most ≤ length out.old) }
-    ensures { result ≡ true → Complete buf.new out.new }
+    ring: &mut [u8; RING_BYTES],
+    buf: &mut [u8; BUFFER_BYTES],
+    out: &mut [u8; ROWS_BYTES],
+) -> io::Result<()>
+    requires { Standing desk ring.old buf.old × Fits desk (length buf.old) × (desk.end - desk.at < limit) }
+    ensures { OnOk result (Complete buf.new out.new) }
 {
     let mut told = Round {
         desk,
         full: 0,
-        go: READ,
+        go: Go::Read,
     };
     let mut over = false;
-    let mut left = u64::MAX;
-    while 0 < left {
+    for _ in 0..u64::MAX {
         let given = supply(input, errors, buf, told, over);
-        let at = given.desk;
         over = given.over;
-        told = round::take_turns(at, ring, buf, over, out);
-        if unsent(output, errors, out, told.full) {
-            return false;
+        told = round::take_turns(given.desk, ring, buf, over, out);
+        send(output, errors, &out[..told.full])?;
+        if told.go == Go::Done {
+            return Ok(());
         }
-        if told.go == DONE {
-            return true;
-        }
-        left -= 1;
     }
-    false
+    Err(io::Error::other("there are too many rounds"))
 }
 
-// The book is open and the first line is written; then rounds.
+// The book is opened and the first line is written; then rounds. The ring has the bytes that the book takes, and there is room for a
+// line, so that neither is refused.
 fn run<R: Read, W: Write, E: Write>(
     input: &mut R,
     output: &mut W,
     errors: &mut E,
-    ring: &mut [u8],
-    buf: &mut [u8],
-    out: &mut [u8],
-) -> bool
-    requires { (ring.old ≡ no_bytes) × (length buf.old ≡ buffer_bytes) × (rows_most ≤ length out.old) }
-    ensures { result ≡ true → Complete buf.new out.new }
+    ring: &mut [u8; RING_BYTES],
+    buf: &mut [u8; BUFFER_BYTES],
+    out: &mut [u8; ROWS_BYTES],
+) -> io::Result<()>
+    requires { ring.old ≡ no_bytes }
+    ensures { OnOk result (Complete buf.new out.new) }
 {
-    let started = watch::start(ring);
-    let head = rows::head(out);
-    if unsent(output, errors, out, head.length) {
-        return false;
-    }
-    let state = started.state;
+    let state = watch::start(ring).unwrap();
+    let length = rows::head(out).unwrap();
+    send(output, errors, &out[..length])?;
     let desk = Desk {
         state,
         from: 0,
@@ -154,7 +157,8 @@ fn main(rt: HostRuntime) {
     let mut ring = [0u8; RING_BYTES];
     let mut buf = [0u8; BUFFER_BYTES];
     let mut out = [0u8; ROWS_BYTES];
-    run(
+    // A failure to write has been told, and ends the program as the end of the input does.
+    let _ = run(
         &mut rt.stdin(),
         &mut rt.stdout(),
         &mut rt.stderr(),

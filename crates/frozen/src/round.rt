@@ -1,6 +1,7 @@
 // A round of the program: turns of watch over the bytes at hand, their rows one behind another in a buffer. (specs/Round.antt)
 ghost use Rattle.std.specs.Prelude.{◌+◌, ◌≤◌, ◌≡◌, length};
 ghost use Rattle.rows.specs.Calls.{line_most};
+ghost use Rattle.watch.specs.Told.{as_turn};
 ghost use Rattle.frozen.specs.Desk.{Fits};
 ghost use Rattle.frozen.specs.Round.{rows_most, turns_most, used_by, desk_after, go_after, turn_at, round_of, Tells};
 
@@ -8,11 +9,12 @@ use crate::desk::Desk;
 use watch::Turn;
 
 // How the program goes on: it takes a turn more, it reads, it ends.
-pub(crate) const AGAIN: u8 = 0;
-
-pub(crate) const READ: u8 = 1;
-
-pub(crate) const DONE: u8 = 2;
+#[derive(Clone, Copy, Debug, PartialEq, Eq)]
+pub(crate) enum Go {
+    Again,
+    Read,
+    Done,
+}
 
 // So many turns that the rows' buffer has room for a line, 96 bytes, of each.
 const TURNS: usize = 42;
@@ -22,66 +24,47 @@ const TURNS: usize = 42;
 pub(crate) struct Round {
     pub(crate) desk: Desk,
     pub(crate) full: usize,
-    pub(crate) go: u8,
+    pub(crate) go: Go,
 }
 
 // What follows a turn: behind a row's image, which is the image before now; otherwise at the same desk.
 fn after(desk: Desk, turn: Turn, full: usize) -> Round
-    requires { desk.at + used_by turn ≤ desk.end }
-    ensures { result ≡ record { desk = desk_after desk turn; full = full; go = go_after turn } }
+    requires { desk.at + used_by (as_turn turn) ≤ desk.end }
+    ensures { result ≡ record { desk = desk_after desk (as_turn turn); full = full; go = go_after (as_turn turn) } }
 {
     match turn {
-        Turn::Row(line) => {
-            let state = line.state;
-            let next = Desk {
-                state,
+        Turn::Row(line) => Round {
+            desk: Desk {
+                state: line.state,
                 from: desk.at,
                 at: desk.at + line.used,
-                end: desk.end,
-            };
-            Round {
-                desk: next,
-                full,
-                go: AGAIN,
-            }
-        }
-        Turn::Refused(_) => Round {
-            desk,
+                ..desk
+            },
             full,
-            go: DONE,
+            go: Go::Again,
         },
-        Turn::Ends => Round {
+        Turn::Refused(_) | Turn::Ends => Round {
             desk,
             full,
-            go: DONE,
+            go: Go::Done,
         },
         Turn::Wait => Round {
             desk,
             full,
-            go: READ,
+            go: Go::Read,
         },
     }
 }
 
-// One turn; its row goes behind those that wait.
+// One turn; its row goes behind those that wait. There is room for a line, so that no step is refused.
 fn turn(desk: Desk, ring: &mut [u8], buf: &[u8], over: bool, out: &mut [u8], full: usize) -> Round
     requires { Fits desk (length buf.now) × (full + line_most ≤ length out.old) }
     ensures { Tells (turn_at desk ring.old buf.now over) out.old full result ring.new out.new × (result.full ≤ full + line_most) }
 {
-    let from = desk.from;
-    let at = desk.at;
-    let end = desk.end;
-    let state = desk.state;
-    let stepped = watch::step(
-        state,
-        ring,
-        &buf[from..at],
-        &buf[at..end],
-        over,
-        &mut out[full..],
-    );
-    let turn = stepped.turn;
-    after(desk, turn, full + stepped.wrote)
+    let last = &buf[desk.from..desk.at];
+    let hand = &buf[desk.at..desk.end];
+    let stepped = watch::step(desk.state, ring, last, hand, over, &mut out[full..]).unwrap();
+    after(desk, stepped.turn, full + stepped.wrote)
 }
 
 // Turns until the bytes at hand give no row more, or the buffer has room for no line more; their rows lie at its start.
@@ -98,16 +81,13 @@ pub(crate) fn take_turns(
     let mut told = Round {
         desk,
         full: 0,
-        go: AGAIN,
+        go: Go::Again,
     };
-    let mut left = TURNS;
-    while 0 < left {
-        let at = told.desk;
-        told = turn(at, ring, buf, over, out, told.full);
-        if told.go != AGAIN {
+    for _ in 0..TURNS {
+        told = turn(told.desk, ring, buf, over, out, told.full);
+        if told.go != Go::Again {
             return told;
         }
-        left -= 1;
     }
     told
 }

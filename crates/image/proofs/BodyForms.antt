@@ -16,7 +16,7 @@ use Rattle.image.specs.Seen.{Seen, bytes_of}
 use Rattle.image.specs.Step.{Step, stopped, found}
 use Rattle.image.specs.Format.{Field, Written, bytes_in, numbers_in, AllPass}
 use Rattle.image.proofs.SeenLists.{bytes_append, reach_from, reach_append}
-use Rattle.image.proofs.StepsApart.{stopped_not_found, stopped_apart}
+use Rattle.image.proofs.StepsApart.{stopped_apart}
 use Rattle.image.proofs.ByteByByte.{in_sign, in_gap, goes, fails, entering, carried, walk}
 use Rattle.image.proofs.NumberForms.{NumberAt, judgement, number_walk, NumberStory, whole, broken, short, number_story}
 
@@ -116,13 +116,13 @@ body_found end (test ∷ tests) numbers seen l {values} {used} {rest} w e =
           body = number_more test tests f.later seen l used rest w n passing f.body;
           all_are = ap (λ (x : ℕ). numbers ++ (x ∷ f.later)) is ∙ sym (append_assoc numbers (v ∷ []) f.later) ∙ f.all_are;
         }
-    judged n false passing v is again e = stopped_not_found e
+    judged n false passing v is again e = cc
 
     by : ((n : NumberAt l) (v : ℕ) → walk_behind end (numbers ++ (v ∷ [])) tests n.last n.rest ≡ found values used rest
         → FoundBody tests (numbers ++ (v ∷ [])) values n.last n.rest used rest)
         → NumberStory end l → FoundBody (test ∷ tests) numbers values seen l used rest
-    by again (broken stops) = stopped_not_found (sym (stops numbers test tests) ∙ e)
-    by again (short stops) = stopped_not_found (sym (stops numbers test tests) ∙ e)
+    by again (broken stops) = cc (sym (stops numbers test tests) ∙ e)
+    by again (short stops) = cc (sym (stops numbers test tests) ∙ e)
     by again (whole n) =
         let v = value_of 0 (bytes_of n.digits) in
         judged n (test v) refl v refl (again n v) (sym (judged_at end numbers test tests l n) ∙ e)
@@ -143,7 +143,7 @@ OverBody tests seen l = OverFormed [] tests (seen ∷ l)
 
 body_over : (end : ℕ) → (end ≡ number_out_of_range → ⊥) → (tests : List Test) (numbers : List ℕ) (seen : Seen) (l : List Seen)
     → white seen.byte ≡ true → walk_behind end numbers tests seen l ≡ stopped number_out_of_range → OverBody tests seen l
-body_over end other [] numbers seen l w e = stopped_not_found (sym e)
+body_over end other [] numbers seen l w e = cc (sym e)
 body_over end other (test ∷ tests) numbers seen l w e =
     by (λ n v e. body_over end other tests (numbers ++ (v ∷ [])) n.last n.rest n.ended e) (number_story end l)
   where
@@ -203,7 +203,7 @@ sign_more {signs} sign seen same f = record {
 pub walk_found : (end : ℕ) (signs : List ℕ) (tests : List Test) (l : List Seen) {values : List ℕ} {used : ℕ} {rest : List Seen}
     → walk end (in_sign signs tests) l ≡ found values used rest → Formed signs tests values l used rest
 unfolding walk
-walk_found end signs tests [] e = stopped_not_found e
+walk_found end signs tests [] e = cc
 walk_found end [] tests (seen ∷ l) {values} {used} {rest} e = by (white seen.byte) refl e
   where
     by : (w : Bool) → white seen.byte ≡ w
@@ -212,7 +212,7 @@ walk_found end [] tests (seen ∷ l) {values} {used} {rest} e = by (white seen.b
     by true w e =
         let f = body_found end tests [] seen l w e in
         rw (← f.all_are) f.body
-    by false w e = stopped_not_found e
+    by false w e = cc
 walk_found end (sign ∷ signs) tests (seen ∷ l) {values} {used} {rest} e = by (eqb sign seen.byte) refl (walk_found end signs tests l) e
   where
     by : (b : Bool) → eqb sign seen.byte ≡ b
@@ -220,7 +220,7 @@ walk_found end (sign ∷ signs) tests (seen ∷ l) {values} {used} {rest} e = by
         → carried seen l (λ next. walk end next l) (cond b (goes (in_sign signs tests)) (fails wrong_byte)) ≡ found values used rest
         → Formed (sign ∷ signs) tests values (seen ∷ l) used rest
     by true b again e = sign_more sign seen (eqb-true sign seen.byte b) (again e)
-    by false b again e = stopped_not_found e
+    by false b again e = cc
 
 pub walk_over : (end : ℕ) → (end ≡ number_out_of_range → ⊥) → (signs : List ℕ) (tests : List Test) (l : List Seen)
     → walk end (in_sign signs tests) l ≡ stopped number_out_of_range → OverFormed signs tests l

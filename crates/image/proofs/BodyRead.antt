@@ -46,7 +46,7 @@ field_at field byte l first tail some e = by field.gap some e
     by₂ : (gap : List ℕ) → AllOf white gap → (p : Parted l gap (field.digits ++ (first ∷ tail)))
         → (q : Parted p.second field.digits (first ∷ tail)) → (r : List Seen) → q.second ≡ r → bytes_of r ≡ first ∷ tail
         → FieldAt field l (first ∷ tail)
-    by₂ gap all p q [] is e = let z : ◌≡◌ {A = ℕ} 0 1 = cc in absurd (omega arith)
+    by₂ gap all p q [] is e = cc
     by₂ gap all p q (seen ∷ rest) is e = record {
       gap = p.first;
       digits = q.first;
@@ -109,7 +109,7 @@ module _ (end : ℕ) (numbers : List ℕ) (test : Test) (tests : List Test) wher
 
 none_left : (l : List Seen) (byte last : ℕ) → ◌≡◌ {A = List ℕ} (byte ∷ bytes_of l) (last ∷ []) → l ≡ []
 none_left [] byte last e = refl
-none_left (seen ∷ l) byte last e = let z : ◌≡◌ {A = ℕ} 0 1 = cc in absurd (omega arith)
+none_left (seen ∷ l) byte last e = cc
 
 -- numbers that pass are found
 body_read : (end : ℕ) (fields : List Field) (tests : List Test) (numbers : List ℕ) (last : ℕ) (seen : Seen) (l rest : List Seen)
@@ -159,8 +159,8 @@ record SignWalked (end : ℕ) (signs : List ℕ) (tests : List Test) (taken : Li
 sign_walked : (end : ℕ) (signs : List ℕ) (tests : List Test) (taken : List Seen) (first : ℕ) (tail : List ℕ) → white first ≡ true
     → bytes_of taken ≡ signs ++ (first ∷ tail) → SignWalked end signs tests taken (first ∷ tail)
 unfolding walk
-sign_walked end [] tests [] first tail w e = let z : ◌≡◌ {A = ℕ} 0 1 = cc in absurd (omega arith)
-sign_walked end (sign ∷ signs) tests [] first tail w e = let z : ◌≡◌ {A = ℕ} 0 1 = cc in absurd (omega arith)
+sign_walked end [] tests [] first tail w e = cc
+sign_walked end (sign ∷ signs) tests [] first tail w e = cc
 sign_walked end [] tests (seen ∷ taken) first tail w e =
     let same : seen.byte ≡ first = cc in
     record { next = seen; left = taken; tail_is = e; walks = λ rest. rw (ap white same ∙ w); reaches = λ used. refl }

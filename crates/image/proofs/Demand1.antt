@@ -14,8 +14,9 @@ use Rattle.refusals.specs.Call.{result_of, left_of}
 use Rattle.refusals.specs.Demand1.{NoneHolds, FirstThatHolds, Tells, Settles, Promised}
 use Rattle.refusals.proofs.Calls.{asks_leaves, promised, settled, result_cases, passed_on_numbered, passed_on_none, passed_on_alone}
 use Rattle.refusals.proofs.Calls.{written_out, first_holds, nothing_holds}
-use Rattle.image.specs.declared.Numbers.{Numbers}
+use Rattle.image.specs.declared.told.Numbers.{Numbers}
 use Rattle.image.specs.Kinds.{Kind, pgm, pbm}
+use Rattle.image.specs.Refused.{as_numbers}
 use Rattle.image.specs.Reading.{Reading, refused_with, size_faults, pixel_faults, raster_refusal, named, numbers_of, numbers_row, header_call}
 use Rattle.image.specs.Mask.{mask_numbers_of, mask_call}
 use Rattle.image.specs.Part.{Part, part_of, cut, raster_of, empty_part, raster_call}
@@ -96,24 +97,24 @@ mask_tells s = numbers_tells (mask_numbers_of s) s
 
 module _ (κs : Lfts 1) where
   -- both promises of `header`
-  pub header_promised : Promised (header_reads.Post κs) (λ r. r) (λ a e. a.0.now) (λ a. header_call a.0.now) (λ (n : Numbers). n.refusal)
+  pub header_promised : Promised (header_reads.Post κs) (λ a r. as_numbers r) (λ a e. a.0.now) (λ a. header_call a.0.now) (λ (n : Numbers). n.refusal)
   header_promised =
       promised _ _ _ _ (λ a r e p. (p ∙ sym (header_result a.0.now), header_leaves a.0.now)) _ (λ a. header_tells a.0.now)
 
   -- and of `mask_header`
-  pub mask_header_promised : Promised (mask_header_reads.Post κs) (λ r. r) (λ a e. a.0.now) (λ a. mask_call a.0.now) (λ (n : Numbers). n.refusal)
+  pub mask_header_promised : Promised (mask_header_reads.Post κs) (λ a r. as_numbers r) (λ a e. a.0.now) (λ a. mask_call a.0.now) (λ (n : Numbers). n.refusal)
   mask_header_promised =
       promised _ _ _ _ (λ a r e p. (p ∙ sym (mask_result a.0.now), mask_leaves a.0.now)) _ (λ a. mask_tells a.0.now)
 
   -- uniqueness of `raster`
-  pub raster_settled : Settles {Shown = Part} (raster_reads.Post κs) part_of (λ a e. a.0.now)
+  pub raster_settled : Settles {Shown = Part} (raster_reads.Post κs) (λ a r. part_of r) (λ a e. a.0.now)
   unfolding raster_call
   raster_settled =
-      settled (raster_reads.Post κs) part_of (λ a e. a.0.now) (λ a. raster_call a.0)
+      settled (raster_reads.Post κs) (λ a r. part_of r) (λ a e. a.0.now) (λ a. raster_call a.0)
       (λ a r e p. (p ∙ sym (raster_result a.0), asks_leaves (raster_call a.0) refl))
 
   -- uniqueness of `pair_value`, which refuses nothing
-  pub pair_value_settled : Settles (pair_value_reads.Post κs) (λ r. r) (λ a e. a.0.now)
+  pub pair_value_settled : Settles (pair_value_reads.Post κs) (λ a r. r) (λ a e. a.0.now)
   pair_value_settled a r r' e e' p p' = (p ∙ sym p', refl)
 
 -- promise 1.2: of the raster's faults, in an image of any kind, the first that holds gives the refusal (those of the header come in the order

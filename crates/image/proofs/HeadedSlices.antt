@@ -20,7 +20,7 @@ use Rattle.image.proofs.VisibleBytes.{visible_cut, visible_behind}
 
 -- a header has bytes
 header_some : {sign : ℕ} {tests : List Test} {numbers : List ℕ} (taken : List Seen) → Header sign tests numbers (bytes_of taken) → 0 < length taken
-header_some [] h = let none : ◌≡◌ {A = List ℕ} [] (_ ∷ _) = h.split in let z : ◌≡◌ {A = ℕ} 0 1 = cc in absurd (omega arith)
+header_some [] h = let none : ◌≡◌ {A = List ℕ} [] (_ ∷ _) = h.split in cc
 header_some (seen ∷ taken) h = omega arith
 
 -- bytes of which something is seen are there

@@ -19,7 +19,7 @@ use Rattle.image.specs.Fields.{header_fields}
 use Rattle.image.specs.Kinds.{Kind}
 use Rattle.image.specs.FirstFault.{Complete, Begun, Over, NothingOver, OutOfRange, WrongByte, RunsOut}
 use Rattle.image.proofs.SeenLists.{bytes_append, seen_as, bytes_seen_lem, parted}
-use Rattle.image.proofs.StepsApart.{stopped_not_found, stopped_apart}
+use Rattle.image.proofs.StepsApart.{stopped_apart}
 use Rattle.image.proofs.ByteByByte.{Place, in_sign, Onward, goes, fails, ends, onward, carried, walk, header_walks}
 use Rattle.image.proofs.BodyForms.{walk_found, walk_over}
 use Rattle.image.proofs.BodyRead.{header_read, header_over_read}
@@ -87,12 +87,12 @@ module _ (kind : Kind) where
 
       waits : (k : ℕ) → walk ends_too_early loose l ≡ stopped k → (same : Bool) → eqb k ends_too_early ≡ same → ◌≡◌ {A = Step (List ℕ)} (stopped k) (stopped ends_too_early)
       waits k is true e = ap stopped (eqb-true k ends_too_early e)
-      waits k is false e = stopped_not_found (longer (stopped k) is (λ f. eqb-false k ends_too_early e (cc))).2
+      waits k is false e = cc (longer (stopped k) is (λ f. eqb-false k ends_too_early e (cc))).2
 
       by : (step : Step (List ℕ)) → walk ends_too_early loose l ≡ step → step ≡ stopped ends_too_early
       by (stopped k) is = waits k is (eqb k ends_too_early) refl
       by (found numbers used rest) is =
-          let w = longer (found numbers used rest) is (λ e. stopped_not_found (sym e)) in
+          let w = longer (found numbers used rest) is (λ e. cc (sym e)) in
           absurd (nothing_more rest b.more b.not_none (rest_of w.2))
         where
           rest_of : {n m : List ℕ} {u v : ℕ} {a c : List Seen} → found n u a ≡ found m v c → a ≡ c
@@ -177,10 +177,10 @@ module _ (kind : Kind) where
       by (fails k) is = failing_with k is (fails_numbered beginning l is)
       by (ends numbers) is =
           let loosely : after loose l ≡ ends numbers = after_loosened beginning l (λ f. unlike_ends (sym is ∙ f)) ∙ ap loosened_on is in
-          stopped_not_found (sym waits ∙ (walk_ends ends_too_early loose l loosely).2)
+          cc (sym waits ∙ (walk_ends ends_too_early loose l loosely).2)
         where
           unlike_ends : ends numbers ≡ fails number_out_of_range → ⊥
-          unlike_ends e = let z : ◌≡◌ {A = ℕ} 0 1 = cc in absurd (omega arith)
+          unlike_ends e = cc
 
   -- a byte is wrong exactly where the walk fails with 11
   fails_wrong_byte : (l : List Seen) → FailsAt beginning l wrong_byte → WrongByte kind (bytes_of l)
@@ -196,7 +196,7 @@ module _ (kind : Kind) where
         begun = goes_begun f.first (goes_loose f.first f.comes);
         nothing_over = goes_nothing_over f.first f.comes;
         not_begun = λ b. stopped_apart wrong_byte ends_too_early (λ e. omega arith) (sym stops ∙ begun_waits (f.first ++ (f.seen ∷ [])) (rw bytes_are b));
-        not_complete = λ c. stopped_not_found (sym stops ∙ (complete_walks ends_too_early (f.first ++ (f.seen ∷ [])) (rw bytes_are c)).2);
+        not_complete = λ c. cc (sym stops ∙ (complete_walks ends_too_early (f.first ++ (f.seen ∷ [])) (rw bytes_are c)).2);
       }
 
   -- one byte more of a header whatever its numbers: it has begun with it, or is whole
@@ -242,7 +242,7 @@ module _ (kind : Kind) where
     where
       by : (first : List Seen) → bytes_of first ≡ w.first → (second : List Seen) → bytes_of second ≡ w.byte ∷ w.rest
           → walk end beginning (first ++ second) ≡ stopped wrong_byte
-      by first first_is [] e = let z : ◌≡◌ {A = ℕ} 0 1 = cc in absurd (omega arith)
+      by first first_is [] e = cc
       by first first_is (seen ∷ second) e =
           let s = runs_out_stands first record { begun = rw first_is w.begun; nothing_over = rw first_is w.nothing_over } in
           let byte_is : seen.byte ≡ w.byte = cc in
@@ -281,7 +281,7 @@ module _ (kind : Kind) where
           at_end (refusal_of_lem (sym stops ∙ ap (walk end beginning) (sym (append-nil l)) ∙ walk_on end beginning l [] is)) (goes_runs_out l is)
       by (fails k) is =
           failing_with k is (refusal_of_lem (sym stops ∙ ap (walk end beginning) (sym (append-nil l)) ∙ walk_fails end beginning l [] is)) (fails_numbered beginning l is)
-      by (ends numbers) is = stopped_not_found (sym stops ∙ (walk_ends end beginning l is).2)
+      by (ends numbers) is = cc (sym stops ∙ (walk_ends end beginning l is).2)
 
   pub fault_stops : (end : ℕ) (l : List Seen) {refusal : ℕ} → HeaderFault end (bytes_of l) refusal
       → header_fields end kind.sign kind.tests l ≡ stopped refusal

@@ -5,16 +5,12 @@ use Prim.Native.Nat.{ℕ, zero, suc, ◌+◌, ◌*◌, ◌<◌, max}
 use mathlib.Core.Bool.{Bool, true, false, ◌||◌}
 use mathlib.Core.Path.{◌≡◌, refl, sym, ap, ap₂, ◌∙◌}
 use native.Mathlib.Omega.{arith}
-use native.Mathlib.Nat.{add-zero, add-suc}
 use native.Mathlib.Numerals.{add-one}
+use native.Mathlib.Nat.{add-zero, add-suc}
 use borrow.Author.Tests.{leb-true, leb-false, lt-ltb, le-ltb, ltb-true, ltb-false}
 use lib.Dec.{leb, ltb}
 use Rattle.image.specs.Pixels.{at_some}
 use Rattle.image.specs.Told.{largest}
-
-pub largest_none : (pixel : ℕ → ℕ) → largest pixel 0 ≡ 0
-unfolding largest
-largest_none pixel = refl
 
 largest_more : (pixel : ℕ → ℕ) (count : ℕ) → largest pixel (suc count) ≡ max (largest pixel count) (pixel count)
 unfolding largest
@@ -33,7 +29,7 @@ largest_join pixel m zero = rw (add-zero m) (omega arith)
 largest_join pixel m (suc n) = rw (add-suc m n) (omega (arith, largest_join pixel m n))
 
 neither : (a b : Bool) → (a || b) ≡ false → (a ≡ false) × (b ≡ false)
-neither true b e = (e, let z : ◌≡◌ {A = ℕ} 0 1 = cc in absurd (omega arith))
+neither true b e = (e, cc)
 neither false b e = (refl, e)
 
 -- the last of some positions, or one before it
@@ -62,7 +58,7 @@ at_some_none test (suc count) none = rw (at_some_none test count (λ i h. none i
 -- … and one that holds at some
 pub at_some_true : (test : ℕ → Bool) (count : ℕ) → at_some test count ≡ true → (i : ℕ) × (i < count) × (test i ≡ true)
 unfolding at_some
-at_some_true test zero e = let z : ◌≡◌ {A = ℕ} 0 1 = cc in absurd (omega arith)
+at_some_true test zero e = cc
 at_some_true test (suc count) e = by (at_some test count) refl e (at_some_true test count)
   where
     by : (b : Bool) → at_some test count ≡ b → (b || test count) ≡ true

@@ -1,9 +1,8 @@
 pub mod FirstByteSeen
 pub mod NextSeen
+pub mod ReadByNext
 pub mod KindsOfBytes
 pub mod FieldsOfBytes
-pub mod NumberUnderWay
-pub mod AnswersTell
 pub mod PixelValues
 pub mod LargestPixel
 pub mod PixelWidths

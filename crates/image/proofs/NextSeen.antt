@@ -1,11 +1,12 @@
 -- What a reader sees ahead, by the byte that stands there: that byte, or what comes behind a comment, or nothing; and the refusal for a
 -- byte that is not there.
 -- Assumes nothing.
-use Prim.Native.Nat.{ℕ, suc, ◌≤◌, ◌<◌, min}
+use Prim.Native.Nat.{ℕ, suc, ◌+◌, ◌≤◌, ◌<◌, min}
 use mathlib.Core.Bool.{Bool, true, false, cond}
 use mathlib.Core.List.{List, [], ◌∷◌}
 use mathlib.Core.Path.{◌≡◌, ap, ◌∙◌}
 use native.Mathlib.Omega.{arith}
+use native.Mathlib.Numerals.{add-one}
 use borrow.Author.Tests.{le-leb, lt-leb}
 use lib.Dec.{leb}
 use lib.ListN.{length, take, drop, get_or, length-take, drop_of_length-le}
@@ -17,34 +18,34 @@ use Rattle.image.specs.Told.{ahead_in_comment}
 use Rattle.image.proofs.FirstByteSeen.{shown_first, opened_first, hidden_first, ended_first}
 
 -- the byte that stands there
-module _ (s : List ℕ) (used : ℕ) (there : used < length s) (below : used < limit) where
+module _ (s : List ℕ) (used : ℕ) (here : used < min limit (length s)) where
   from_here : drop used (take limit s) ≡ get_or s used 0 ∷ drop (suc used) (take limit s)
   from_here =
       let within : used < length (take limit s) = rw (length-take limit s) (omega arith) in
-      drop-cons (take limit s) used 0 within ∙ ap (λ (byte : ℕ). byte ∷ drop (suc used) (take limit s)) (get_or-take limit s used 0 below)
+      drop-cons (take limit s) used 0 within ∙ ap (λ (byte : ℕ). byte ∷ drop (suc used) (take limit s)) (get_or-take limit s used 0 (omega arith))
 
   abbrev later : List ℕ
   later = drop (suc used) (take limit s)
 
   -- it is seen where it opens no comment
   pub ahead_next : comments false used (get_or s used 0) ≡ false
-      → ahead s used ≡ record { byte = get_or s used 0; upto = suc used } ∷ ahead s (suc used)
+      → ahead s used ≡ record { byte = get_or s used 0; upto = used + 1 } ∷ ahead s (used + 1)
   unfolding ahead
-  ahead_next none = ap (visible false used) from_here ∙ shown_first used (get_or s used 0) later none
+  ahead_next none = rw add-one (ap (visible false used) from_here ∙ shown_first used (get_or s used 0) later none)
 
   -- where it opens one, what is seen comes behind that
-  pub ahead_opens : comments false used (get_or s used 0) ≡ true → ahead s used ≡ ahead_in_comment s (suc used)
+  pub ahead_opens : comments false used (get_or s used 0) ≡ true → ahead s used ≡ ahead_in_comment s (used + 1)
   unfolding ahead ahead_in_comment
-  ahead_opens opens = ap (visible false used) from_here ∙ opened_first used (get_or s used 0) later opens
+  ahead_opens opens = rw add-one (ap (visible false used) from_here ∙ opened_first used (get_or s used 0) later opens)
 
   -- inside of a comment it is passed over, and with a line end the comment is over
-  pub comment_goes_on : line_end (get_or s used 0) ≡ false → ahead_in_comment s used ≡ ahead_in_comment s (suc used)
+  pub comment_goes_on : line_end (get_or s used 0) ≡ false → ahead_in_comment s used ≡ ahead_in_comment s (used + 1)
   unfolding ahead_in_comment
-  comment_goes_on inside = ap (visible true used) from_here ∙ hidden_first used (get_or s used 0) later inside
+  comment_goes_on inside = rw add-one (ap (visible true used) from_here ∙ hidden_first used (get_or s used 0) later inside)
 
-  pub comment_ends : line_end (get_or s used 0) ≡ true → ahead_in_comment s used ≡ ahead s (suc used)
+  pub comment_ends : line_end (get_or s used 0) ≡ true → ahead_in_comment s used ≡ ahead s (used + 1)
   unfolding ahead ahead_in_comment
-  comment_ends last = ap (visible true used) from_here ∙ ended_first used (get_or s used 0) later last
+  comment_ends last = rw add-one (ap (visible true used) from_here ∙ ended_first used (get_or s used 0) later last)
 
 -- none: the slice or the limit ends here
 pub ahead_none : (s : List ℕ) (used : ℕ) → min limit (length s) ≤ used → ahead s used ≡ []

@@ -19,7 +19,7 @@ Breaks kind [] = ⊥
 Breaks kind (byte ∷ rest) = kind byte ≡ false
 
 both : {A : Type 0} (b : Bool) → b ≡ true → b ≡ false → A
-both b t f = let z : ◌≡◌ {A = ℕ} 0 1 = cc in absurd (omega arith)
+both b t f = cc
 
 -- a run goes up to the first byte of another kind
 run_once : (kind : ℕ → Bool) (a a' r r' : List ℕ) → AllOf kind a → AllOf kind a' → Breaks kind r → Breaks kind r' → a ++ r ≡ a' ++ r'

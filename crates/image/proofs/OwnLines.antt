@@ -4,7 +4,6 @@ use Prim.Native.Nat.{ℕ, ◌-◌}
 use mathlib.Core.Bool.{Bool, true, false, cond}
 use mathlib.Core.List.{List, [], ◌∷◌, ◌++◌, append-nil}
 use mathlib.Core.Path.{◌≡◌, refl, sym, ap, ◌∙◌}
-use native.Mathlib.Omega.{arith}
 use borrow.Author.Tests.{eq-eqb}
 use Rattle.refusals.specs.Numbers.{ends_too_early, wrong_byte, number_out_of_range}
 use Rattle.decimals.specs.Decimal.{zero_byte, digit, with_digit}
@@ -19,7 +18,6 @@ use Rattle.image.specs.Comments.{Without}
 use Rattle.image.specs.OtherReaders.{OwnLines}
 use Rattle.image.proofs.KindsOfBytes.{line_end_white}
 use Rattle.image.proofs.SeenLists.{seen_as, bytes_seen_lem}
-use Rattle.image.proofs.StepsApart.{stopped_not_found}
 use Rattle.image.proofs.ByteByByte.{
   Place,
   in_sign,
@@ -81,10 +79,10 @@ one_further before first (in_digits numbers value test tests) there = by (white 
 -- so behind a white byte another one changes nothing
 white_again : (before next : ℕ) (place : Place) → Behind before place → white before ≡ true → white next ≡ true
     → (onward place next ≡ goes place) × Behind next place
-white_again before next (in_sign [] tests) there w w' = let z : ◌≡◌ {A = ℕ} 0 1 = cc in absurd (omega arith)
+white_again before next (in_sign [] tests) there w w' = cc
 white_again before next (in_sign (sign ∷ signs) tests) there w w' = absurd there
 white_again before next (in_gap numbers test tests) there w w' = (rw w', tt)
-white_again before next (in_digits numbers value test tests) there w w' = let z : ◌≡◌ {A = ℕ} 0 1 = cc in absurd (omega arith)
+white_again before next (in_digits numbers value test tests) there w w' = cc
 
 -- what a walk comes to; of the bytes that it leaves it counts only whether there are any
 abbrev any_of : List Seen → List Seen
@@ -138,13 +136,13 @@ module _ (sign : ℕ) (tests : List Test) where
   is_header numbers bytes used = by (header_in bytes) refl
     where
       by : (step : Step (List ℕ)) → header_in bytes ≡ step → outcome step ≡ found numbers used [] → Header sign tests numbers bytes
-      by (stopped refusal) read e = stopped_not_found e
+      by (stopped refusal) read e = cc
       by (found values reached []) read e =
           let same : values ≡ numbers = cc in
           let t = header_sound ends_too_early sign tests (seen_as bytes) read in
           let all : bytes_of t.taken ≡ bytes = ap bytes_of (sym (t.split ∙ append-nil t.taken)) ∙ bytes_seen_lem bytes in
           rw (← same, ← all) t.header
-      by (found values reached (seen ∷ rest)) read e = let z : ◌≡◌ {A = ℕ} 0 1 = cc in absurd (omega arith)
+      by (found values reached (seen ∷ rest)) read e = cc
 
   carried_over : (numbers bytes others : List ℕ) → outcome (header_in bytes) ≡ outcome (header_in others)
       → Header sign tests numbers bytes → Header sign tests numbers others

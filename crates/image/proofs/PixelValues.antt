@@ -50,8 +50,16 @@ pixel_pair (high ∷ []) h = absurd (omega arith)
 pixel_pair (high ∷ low ∷ later) h = omega arith
 
 -- … and where there are fewer: the one byte, or 0 without any
+pub pixel_pair_none : (bytes : List ℕ) → length bytes < 1 → pixel_at 2 bytes 0 ≡ 0
+unfolding pixel_at bytes_value
+pixel_pair_none [] h = refl
+pixel_pair_none (byte ∷ later) h = absurd (omega arith)
+
 pub pixel_pair_cut : (bytes : List ℕ) → length bytes < 2 → pixel_at 2 bytes 0 ≡ get_or bytes 0 0
 unfolding pixel_at bytes_value
 pixel_pair_cut [] h = refl
 pixel_pair_cut (byte ∷ []) h = omega arith
 pixel_pair_cut (high ∷ low ∷ later) h = absurd (omega arith)
+
+-- the first pixel of two bytes, however many bytes there are
+pub ruleset first_pair = (pixel_pair_none, pixel_pair_cut, pixel_pair)

@@ -1,21 +1,20 @@
--- What the faults of a raster make of a header, for an image of any kind: one equation for each of the four outcomes, all of them together,
--- and what the number that its end gives decides.
+-- What the faults of a raster make of a header, for an image of any kind: one equation for each of the four outcomes, all of them together;
+-- and what holds where its end gives none.
 -- Assumes nothing.
 use Prim.Native.Nat.{ℕ, ◌≤◌, ◌<◌}
 use mathlib.Core.Bool.{Bool, true, false}
 use mathlib.Core.List.{List}
-use mathlib.Core.Path.{◌≡◌, refl, sym, ap, ◌∙◌}
+use mathlib.Core.Path.{◌≡◌, refl, sym, ap}
 use borrow.Author.Tests.{lt-ltb, le-ltb, ltb-true, ltb-false}
 use lib.Dec.{ltb}
 use lib.ListN.{length}
 use Rattle.refusals.specs.Numbers.{image_too_large, ends_too_early, pixel_too_large}
 use Rattle.refusals.specs.First.{first_of}
-use Rattle.refusals.proofs.Laws.{first_stops, refused_keeps}
 use Rattle.refusals.proofs.Calls.{written_out, nothing_holds}
 use Rattle.image.specs.Seen.{limit}
 use Rattle.image.specs.Pixels.{at_some}
 use Rattle.image.specs.Kinds.{Kind}
-use Rattle.image.specs.Reading.{Reading, refused_reading, used_with, raster_at, size_faults, pixel_faults, raster_refusal, with_raster, named}
+use Rattle.image.specs.Reading.{Reading, refused_reading, used_with, raster_at, size_faults, raster_refusal, with_raster, named}
 
 -- whether a position of the raster is at fault
 abbrev pub some_faulty : Kind → List ℕ → List ℕ → ℕ → Bool
@@ -71,14 +70,7 @@ module _ (kind : Kind) (s numbers : List ℕ) (start : ℕ) where
       by₁ true e = let h = ltb-true limit used e in rw (raster_over h) (over h)
       by₁ false e = by₂ (ltb-false limit used e) (ltb (length s) used) refl
 
-  -- a number that its end gives is the refusal …
-  pub raster_missing : {n : ℕ} → n ≡ first_of (size_faults kind s numbers start) → (n ≡ 0 → ⊥) → with_raster kind s numbers start ≡ refused_reading n
-  unfolding with_raster raster_refusal
-  raster_missing {n} e ne =
-      let first = first_stops (size_faults kind s numbers start) (pixel_faults kind s numbers start) n e ne in
-      refused_keeps (raster_refusal kind s numbers start) _ _ first ne ∙ ap refused_reading (sym first)
-
-  -- … and where it gives none the raster is there
+  -- where its end gives no refusal the raster is there
   pub raster_there : first_of (size_faults kind s numbers start) ≡ 0 → (used_with kind numbers start ≤ limit) × (used_with kind numbers start ≤ length s)
   raster_there e =
       let faults = size_faults kind s numbers start in

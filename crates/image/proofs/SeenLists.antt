@@ -3,7 +3,6 @@
 use Prim.Native.Nat.{ℕ}
 use mathlib.Core.List.{List, [], ◌∷◌, ◌++◌}
 use mathlib.Core.Path.{◌≡◌, refl, ap}
-use native.Mathlib.Omega.{arith}
 use Rattle.image.specs.Seen.{Seen, bytes_of, reach}
 
 pub bytes_append : (a b : List Seen) → bytes_of (a ++ b) ≡ bytes_of a ++ bytes_of b
@@ -29,7 +28,7 @@ pub record Parted (l : List Seen) (a b : List ℕ) : Type 0 where
 
 pub parted : (l : List Seen) (a b : List ℕ) → bytes_of l ≡ a ++ b → Parted l a b
 parted l [] b e = record { first = []; second = l; split = refl; first_is = refl; second_is = e }
-parted [] (byte ∷ a) b e = let z : ◌≡◌ {A = ℕ} 0 1 = cc in absurd (omega arith)
+parted [] (byte ∷ a) b e = cc
 parted (seen ∷ l) (byte ∷ a) b e =
     let same : seen.byte ≡ byte = cc in
     let p = parted l a b (cc) in

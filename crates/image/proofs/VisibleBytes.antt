@@ -101,7 +101,7 @@ module _ (inside : Bool) (used byte : ℕ) (later : List ℕ) where
 parted : (inside : Bool) (used : ℕ) (raw : List ℕ) (first : Seen) (taken rest : List Seen)
     → visible inside used raw ≡ (first ∷ taken) ++ rest → Parted inside used raw (first ∷ taken) rest
 unfolding visible
-parted inside used [] first taken rest e = let z : ◌≡◌ {A = ℕ} 0 1 = cc in absurd (omega arith)
+parted inside used [] first taken rest e = cc
 parted inside used (byte ∷ later) first taken rest e =
     by (inside || comments inside used byte) refl taken e (parted (comments inside used byte) (suc used) later)
   where

@@ -5,7 +5,6 @@ use mathlib.Core.Bool.{Bool, true, false, cond}
 use mathlib.Core.List.{List, [], ◌∷◌, ◌++◌}
 use mathlib.Core.Path.{◌≡◌, refl, ap, ◌∙◌, subst}
 use mathlib.Core.Logic.{◌⊎◌, inl, inr}
-use native.Mathlib.Omega.{arith}
 use lib.Dec.{eqb}
 use Rattle.refusals.specs.Numbers.{wrong_byte, number_out_of_range}
 use Rattle.decimals.specs.Decimal.{digit}
@@ -35,31 +34,31 @@ module _ (end : ℕ) where
       by : (o : Onward) → ((p : Place) → after p l ≡ goes next → walk end p (l ++ rest) ≡ walk end next rest)
           → further_on (λ p. after p l) o ≡ goes next → carried seen (l ++ rest) (λ p. walk end p (l ++ rest)) o ≡ walk end next rest
       by (goes p) again e = again p e
-      by (fails refusal) again e = let z : ◌≡◌ {A = ℕ} 0 1 = cc in absurd (omega arith)
-      by (ends numbers) again e = let z : ◌≡◌ {A = ℕ} 0 1 = cc in absurd (omega arith)
+      by (fails refusal) again e = cc
+      by (ends numbers) again e = cc
 
   pub walk_fails : (place : Place) (l rest : List Seen) {refusal : ℕ} → after place l ≡ fails refusal → walk end place (l ++ rest) ≡ stopped refusal
   unfolding after walk
-  walk_fails place [] rest e = let z : ◌≡◌ {A = ℕ} 0 1 = cc in absurd (omega arith)
+  walk_fails place [] rest e = cc
   walk_fails place (seen ∷ l) rest {refusal} e = by (onward place seen.byte) (λ p. walk_fails p l rest) e
     where
       by : (o : Onward) → ((p : Place) → after p l ≡ fails refusal → walk end p (l ++ rest) ≡ stopped refusal)
           → further_on (λ p. after p l) o ≡ fails refusal → carried seen (l ++ rest) (λ p. walk end p (l ++ rest)) o ≡ stopped refusal
       by (goes p) again e = again p e
       by (fails other) again e = ap stopped (cc)
-      by (ends numbers) again e = let z : ◌≡◌ {A = ℕ} 0 1 = cc in absurd (omega arith)
+      by (ends numbers) again e = cc
 
   pub walk_ends : (place : Place) (l : List Seen) {numbers : List ℕ} → after place l ≡ ends numbers
       → (used : ℕ) × (rest : List Seen) × (walk end place l ≡ found numbers used rest)
   unfolding after walk
-  walk_ends place [] e = let z : ◌≡◌ {A = ℕ} 0 1 = cc in absurd (omega arith)
+  walk_ends place [] e = cc
   walk_ends place (seen ∷ l) {numbers} e = by (onward place seen.byte) (λ p. walk_ends p l) e
     where
       by : (o : Onward) → ((p : Place) → after p l ≡ ends numbers → (used : ℕ) × (rest : List Seen) × (walk end p l ≡ found numbers used rest))
           → further_on (λ p. after p l) o ≡ ends numbers
           → (used : ℕ) × (rest : List Seen) × (carried seen l (λ p. walk end p l) o ≡ found numbers used rest)
       by (goes p) again e = again p e
-      by (fails other) again e = let z : ◌≡◌ {A = ℕ} 0 1 = cc in absurd (omega arith)
+      by (fails other) again e = cc
       by (ends others) again e = (seen.upto, l, ap (λ (n : List ℕ). found n seen.upto l) (cc))
 
 -- one byte more
@@ -79,8 +78,8 @@ after_one place (first ∷ l) seen {next} e = by (onward place first.byte) (λ p
     by : (o : Onward) → ((p : Place) → after p l ≡ goes next → after p (l ++ (seen ∷ [])) ≡ onward next seen.byte)
         → further_on (λ p. after p l) o ≡ goes next → further_on (λ p. after p (l ++ (seen ∷ []))) o ≡ onward next seen.byte
     by (goes p) again e = again p e
-    by (fails refusal) again e = let z : ◌≡◌ {A = ℕ} 0 1 = cc in absurd (omega arith)
-    by (ends numbers) again e = let z : ◌≡◌ {A = ℕ} 0 1 = cc in absurd (omega arith)
+    by (fails refusal) again e = cc
+    by (ends numbers) again e = cc
 
 -- a walk that fails does so at some byte
 pub record FailsAt (place : Place) (l : List Seen) (refusal : ℕ) : Type 0 where
@@ -94,7 +93,7 @@ pub record FailsAt (place : Place) (l : List Seen) (refusal : ℕ) : Type 0 wher
 
 pub fails_at : (place : Place) (l : List Seen) {refusal : ℕ} → after place l ≡ fails refusal → FailsAt place l refusal
 unfolding after
-fails_at place [] e = let z : ◌≡◌ {A = ℕ} 0 1 = cc in absurd (omega arith)
+fails_at place [] e = cc
 fails_at place (seen ∷ l) {refusal} e = by (onward place seen.byte) refl (λ p. fails_at p l) e
   where
     by : (o : Onward) → onward place seen.byte ≡ o → ((p : Place) → after p l ≡ fails refusal → FailsAt p l refusal)
@@ -113,7 +112,7 @@ fails_at place (seen ∷ l) {refusal} e = by (onward place seen.byte) refl (λ p
     by (fails other) is again e =
         let same : other ≡ refusal = cc in
         record { first = []; stands = place; seen = seen; rest = l; split = refl; comes = refl; there = is ∙ ap fails same }
-    by (ends numbers) is again e = let z : ◌≡◌ {A = ℕ} 0 1 = cc in absurd (omega arith)
+    by (ends numbers) is again e = cc
 
 -- and with 11 or 12
 abbrev pub Numbered : Onward → Type 0

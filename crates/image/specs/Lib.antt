@@ -17,3 +17,4 @@ pub mod Before
 pub mod OneByte
 pub mod Promised
 pub mod Text
+pub mod Refused

@@ -1,7 +1,7 @@
 -- A mask is a binary PBM (SCOPE, Masks): an image of one more kind, read as every image is.
 use Rattle.std.specs.Prelude.{ℕ, ◌-◌, List, take, drop}
 use Rattle.refusals.specs.Call.{Call}
-use Rattle.image.specs.declared.Numbers.{Numbers}
+use Rattle.image.specs.declared.told.Numbers.{Numbers}
 use Rattle.image.specs.Kinds.{pbm}
 use Rattle.image.specs.Reading.{reading_of, named, numbers_row}
 

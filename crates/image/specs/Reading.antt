@@ -3,7 +3,7 @@ use Rattle.std.specs.Prelude.{ℕ, ◌+◌, ◌*◌, ◌-◌, List, [], ◌∷�
 use Rattle.refusals.specs.Numbers.{image_too_large, ends_too_early, pixel_too_large}
 use Rattle.refusals.specs.First.{Fault, ◌gives◌, passed_on, first_of, unless_refused}
 use Rattle.refusals.specs.Call.{Call}
-use Rattle.image.specs.declared.Numbers.{Numbers}
+use Rattle.image.specs.declared.told.Numbers.{Numbers}
 use Rattle.image.specs.Seen.{limit, ahead, end_of}
 use Rattle.image.specs.Step.{Step, and_then}
 use Rattle.image.specs.Fields.{header_fields}

@@ -1,57 +1,27 @@
 // The fields of a header: the sign, white space, and numbers.
-ghost use Rattle.std.specs.Prelude.{◌≡◌, true, ◌≤◌, ◌<◌, min, length};
+ghost use Rattle.std.specs.Prelude.{[], ◌∷◌, ◌≡◌, true, ◌^◌, ◌≤◌, ◌<◌, min, length, IfOk};
 ghost use Rattle.decimals.specs.Decimal.{digit, with_digit};
 ghost use Rattle.image.specs.Bytes.{white};
 ghost use Rattle.image.specs.Tests.{up_to};
 ghost use Rattle.image.specs.Seen.{limit, ahead, end_of};
-ghost use Rattle.image.specs.Step.{stopped, and_then};
-ghost use Rattle.image.specs.Told.{told, judged_took, above_ranges};
-ghost use Rattle.image.specs.Fields.{after_white, number_field, magic};
+ghost use Rattle.image.specs.Told.{told, told_sides, sides_tests, above_ranges};
+ghost use Rattle.image.specs.Fields.{one_of, after_white, judged, number_field, magic, header_fields};
 
 use crate::bytes;
-use crate::bytes::Took;
-use refusals::{NUMBER_OUT_OF_RANGE, WRONG_BYTE};
+use crate::took::{Sides, Took};
+use refusals::Refusal;
 
-const LETTER_P: usize = 80;
-
-const SPACE: usize = 32;
-
-const TAB: usize = 9;
-
-const CARRIAGE_RETURN: usize = 13;
-
-const LINE_FEED: usize = 10;
-
-const ZERO: usize = 48;
-
-const NINE: usize = 57;
+const LARGEST_SIDE: usize = 1024;
 
 // Above every range.
 const ABOVE: usize = 65536;
 
 // Space, TAB, CR or LF.
-fn is_white(byte: usize) -> bool
+#[tactic(auto, using(std::proofs::lemmas::Bool::Decides::nat_tests), unfolding(crate::specs::Bytes::white))]
+fn is_white(byte: u8) -> bool
     ensures { result ≡ white byte }
 {
-    if byte == SPACE {
-        return true;
-    }
-    if byte == TAB {
-        return true;
-    }
-    if byte == CARRIAGE_RETURN {
-        return true;
-    }
-    byte == LINE_FEED
-}
-
-fn is_digit(byte: usize) -> bool
-    ensures { result ≡ digit byte }
-{
-    if byte < ZERO {
-        return false;
-    }
-    byte <= NINE
+    matches!(byte, b' ' | b'\t' | b'\r' | b'\n')
 }
 
 // The bytes used once a run of white bytes is passed over. They are looked at as they stand in the slice, which is quicker than to take
@@ -61,111 +31,118 @@ fn skip_white(s: &[u8], used: usize) -> usize
     ensures fewer { length (ahead s.now result) ≤ length (ahead s.now used) }
 {
     let end = bytes::readable(s);
-    let mut at = used;
-    while at < end {
-        if is_white(s[at] as usize) {
-            at += 1;
-        } else {
+    for at in used..end {
+        if !is_white(s[at]) {
             return at;
         }
     }
-    at
+    used.max(end)
 }
 
 // A number with one digit more. It stops above every range, so that no run of digits can wrap it.
-fn grown(value: usize, byte: usize) -> usize
+#[tactic(auto, using(decimals::proofs::WritesAndReads::digit_range))]
+fn grown(value: usize, byte: u8) -> usize
     requires { (value ≤ above_ranges) × (digit byte ≡ true) }
     ensures { result ≡ min above_ranges (with_digit value byte) }
 {
-    let more = 10 * value + (byte - ZERO);
-    if more < ABOVE { more } else { ABOVE }
+    let more = 10 * value + usize::from(byte - b'0');
+    more.min(ABOVE)
 }
 
-// A number at the white byte after its digits. Refused, it is left as it is: with a 0 in its place a header takes four instructions more.
-fn judge(value: usize, top: usize, used: usize) -> Took
-    ensures { result ≡ judged_took top value used }
+// A number at the white byte after its digits.
+#[tactic(auto, using(std::proofs::lemmas::Bool::Decides::nat_tests), unfolding(crate::specs::Fields::judged, crate::specs::Tests::up_to))]
+fn judge(value: usize, top: usize, used: usize) -> Result<Took<usize>, Refusal>
+    requires { used ≤ limit }
+    ensures judges { (s : _) → told s result ≡ judged (up_to top) value used (ahead s used) }
+    ensures in_range { IfOk result (λ took. took.value ≤ top) }
 {
     if 1 <= value && value <= top {
-        return Took {
-            refusal: 0,
-            value,
-            used,
-        };
-    }
-    Took {
-        refusal: NUMBER_OUT_OF_RANGE,
-        value,
-        used,
+        Ok(Took { value, used })
+    } else {
+        Err(Refusal::NumberOutOfRange)
     }
 }
 
-// A number from 1 to `top`, with the white bytes before it and one white byte after it. In one loop, so that what a comment takes
-// stands in the program only once for each number.
-fn one_number(s: &[u8], used: usize, top: usize) -> Took
-    requires { top < above_ranges }
-    ensures step { told s.now result ≡ number_field (end_of s.now) (up_to top) (ahead s.now used) }
-    ensures within { (result.value ≤ above_ranges) × (result.used ≤ limit) }
+// The first digit of a number, with the white bytes before it.
+fn first_digit(s: &[u8], used: usize) -> Result<Took<u8>, Refusal>
+    ensures reads { told s.now result ≡ one_of digit (end_of s.now) (after_white (ahead s.now used)) }
+    ensures is_digit { IfOk result (λ took. digit took.value ≡ true) }
 {
     let mut at = used;
-    let mut value = 0;
-    // 1 once a digit was read: as a bool it would take an instruction or two more for each digit.
-    let mut begun: usize = 0;
     loop {
-        let took = bytes::next(s, at);
-        if took.refusal != 0 {
-            return bytes::stopped(took.refusal);
+        let took = bytes::next(s, at)?;
+        if took.value.is_ascii_digit() {
+            return Ok(took);
         }
-        if is_digit(took.value) {
+        if !is_white(took.value) {
+            return Err(Refusal::WrongByte);
+        }
+        at = skip_white(s, took.used);
+    }
+}
+
+// A number from 1 to `top`, with the white bytes before it and one white byte after it. (Inlined, since three calls of it took a third
+// more instructions for a header.)
+#[inline(always)]
+pub(crate) fn number(s: &[u8], used: usize, top: usize) -> Result<Took<usize>, Refusal>
+    requires { top < above_ranges }
+    ensures reads { told s.now result ≡ number_field (end_of s.now) (up_to top) (ahead s.now used) }
+    ensures in_range { IfOk result (λ took. took.value ≤ top) }
+{
+    let first = first_digit(s, used)?;
+    let mut value = usize::from(first.value - b'0');
+    let mut at = first.used;
+    loop {
+        let took = bytes::next(s, at)?;
+        if took.value.is_ascii_digit() {
             value = grown(value, took.value);
-            begun = 1;
             at = took.used;
         } else if is_white(took.value) {
-            if begun != 0 {
-                return judge(value, top, took.used);
-            }
-            at = skip_white(s, took.used);
+            return judge(value, top, took.used);
         } else {
-            return bytes::stopped(WRONG_BYTE);
+            return Err(Refusal::WrongByte);
         }
     }
 }
 
-// Such a number behind what was taken before. A refusal from before is passed on.
-pub(crate) fn number(s: &[u8], before: Took, top: usize) -> Took
-    requires { top < above_ranges }
-    ensures step { told s.now result ≡ and_then stopped (told s.now before) (λ value used rest. number_field (end_of s.now) (up_to top) rest) }
-    ensures within { (result.value ≤ above_ranges) × (result.used ≤ limit) }
+// The next byte, which has to be of a kind.
+#[tactic(auto, unfolding(crate::specs::Fields::one_of))]
+fn one_of<F: Fn(u8) -> bool>(s: &[u8], used: usize, is_of_kind: F) -> Result<Took<u8>, Refusal>
+    requires { F.IsAlwaysCallable is_of_kind }
+    ensures { (kind : _) → ((byte : _) (is : _) → byte < 2 ^ 8 → F.post is_of_kind byte is → is ≡ kind byte)
+        → told s.now result ≡ one_of kind (end_of s.now) (ahead s.now used) }
 {
-    if before.refusal != 0 {
-        return bytes::stopped(before.refusal);
+    let took = bytes::next(s, used)?;
+    if is_of_kind(took.value) {
+        Ok(took)
+    } else {
+        Err(Refusal::WrongByte)
     }
-    one_number(s, before.used, top)
 }
 
 // `P`, the byte that says what kind of image it is, and one white byte.
-pub(crate) fn magic(s: &[u8], sign: usize) -> Took
+#[tactic(auto, using(std::proofs::lemmas::Bool::Decides::nat_tests), unfolding(crate::specs::Fields::magic))]
+fn magic(s: &[u8], sign: u8) -> Result<Took<u8>, Refusal>
     ensures { told s.now result ≡ magic (end_of s.now) sign (ahead s.now 0) }
 {
-    let first = bytes::next(s, 0);
-    if first.refusal != 0 {
-        return first;
-    }
-    if first.value != LETTER_P {
-        return bytes::stopped(WRONG_BYTE);
-    }
-    let second = bytes::next(s, first.used);
-    if second.refusal != 0 {
-        return second;
-    }
-    if second.value != sign {
-        return bytes::stopped(WRONG_BYTE);
-    }
-    let third = bytes::next(s, second.used);
-    if third.refusal != 0 {
-        return third;
-    }
-    if is_white(third.value) {
-        return third;
-    }
-    bytes::stopped(WRONG_BYTE)
+    let first = one_of(s, 0, |byte| byte == b'P')?;
+    let second = one_of(s, first.used, |byte| byte == sign)?;
+    one_of(s, second.used, is_white)
+}
+
+// What every header begins with: the sign, the width and the height.
+#[tactic(auto, unfolding(crate::specs::Fields::header_fields, crate::specs::Fields::number_fields))]
+pub(crate) fn sides(s: &[u8], sign: u8) -> Result<Took<Sides>, Refusal>
+    ensures { told_sides s.now result ≡ header_fields (end_of s.now) sign sides_tests (ahead s.now 0) }
+{
+    let sign = magic(s, sign)?;
+    let width = number(s, sign.used, LARGEST_SIDE)?;
+    let height = number(s, width.used, LARGEST_SIDE)?;
+    Ok(Took {
+        value: Sides {
+            width: width.value,
+            height: height.value,
+        },
+        used: height.used,
+    })
 }

@@ -1,25 +1,21 @@
 -- The calls one by the other: what is known of a call's refusal from the answer that it gives, and the coarse calls by the fine ones.
 -- Assumes nothing.
-use Prim.Native.Nat.{ℕ, ◌*◌, ◌<◌, ◌≤◌}
+use Prim.Native.Nat.{ℕ, ◌*◌}
 use native.Mathlib.Nat.{zero-div, mul-zero}
 use native.Mathlib.Omega.{arith}
 use mathlib.Core.Bool.{Bool, cond}
 use mathlib.Core.List.{List, ◌∷◌}
-use mathlib.Core.Logic.{◌⊎◌, inl, inr}
 use mathlib.Core.Path.{◌≡◌, refl, sym, ap, ◌∙◌}
 use borrow.Author.Tests.{eq-eqb, ne_eqb}
 use Rattle.refusals.specs.Numbers.{bad_lit_call}
 use Rattle.refusals.specs.First.{Fault, first_of}
 use Rattle.refusals.specs.Call.{refusal_of, result_of, seen_as}
 use Rattle.refusals.proofs.Calls.{result_cases, same_result, seen_result, result_taken, result_refused}
-use Rattle.bits.specs.Ones.{ones_of}
-use Rattle.bits.proofs.Promises.{le_or_lt}
 use Rattle.lit.specs.declared.Answer.{Answer}
 use Rattle.lit.specs.Frames.{frames}
 use Rattle.lit.specs.RankSelect.{rank_of, select_of}
 use Rattle.lit.specs.Coarse.{step_down, place_behind}
 use Rattle.lit.specs.Calls.{step_fault, asking, answered, rank_call, select_call, coarse_rank_call, coarse_select_call}
-use Rattle.lit.proofs.Selects.{select_none, select_place}
 
 -- the refusal in an answer is that of the faults
 pub answer_refusal : (row : List ℕ) (faults : List Fault) (value : ℕ) → (result_of (asking row faults value)).refusal ≡ first_of faults
@@ -40,24 +36,13 @@ same_answer row row' faults faults' value value' refusal number =
 abbrev pub stepped : ℕ → Answer → Answer
 stepped d a = record { refusal = a.refusal; value = step_down d a.value }
 
+-- no number is 0 when stepped down
+pub zero_stays : (d : ℕ) → step_down d 0 ≡ 0
+zero_stays d = ap (λ (q : ℕ). d * q) (zero-div d) ∙ mul-zero d
+
 -- a step that is not 0 is no fault
 pub step_passes : (d : ℕ) (later : List Fault) → (d ≡ 0 → ⊥) → first_of (step_fault d ∷ later) ≡ first_of later
 step_passes d later some = rw (ne_eqb d 0 some)
-
--- a k-th one is there exactly where it has a place
-pub no_place : (k : ℕ) (row : List ℕ) → 0 < k → select_of k row ≡ 0 → ones_of row < k
-no_place k row some none = by (le_or_lt k (ones_of row))
-  where
-    by : (k ≤ ones_of row) ⊎ (ones_of row < k) → ones_of row < k
-    by (inl there) = absurd (omega (arith, (select_place k row some there).0))
-    by (inr gone) = gone
-
-pub some_place : (k : ℕ) (row : List ℕ) → (select_of k row ≡ 0 → ⊥) → k ≤ ones_of row
-some_place k row place = by (le_or_lt k (ones_of row))
-  where
-    by : (k ≤ ones_of row) ⊎ (ones_of row < k) → k ≤ ones_of row
-    by (inl there) = there
-    by (inr gone) = absurd (place (select_none k row gone))
 
 -- a step of 0 refuses a coarse call
 module _ (row : List ℕ) (count d : ℕ) where
@@ -77,10 +62,7 @@ module _ (row : List ℕ) (count d : ℕ) (some : d ≡ 0 → ⊥) where
       let fine = rank_call row count i in
       seen_result (stepped d) fine
       ∙ same_result (seen_as (stepped d) fine) (coarse_rank_call row count d i) (sym (step_passes d fine.faults some)) refl
-      (λ j number. record { refusal = number; value = zero_stays j })
-    where
-      zero_stays : step_down d 0 ≡ 0
-      zero_stays = ap (λ (q : ℕ). d * q) (zero-div d) ∙ mul-zero d
+      (λ j number. record { refusal = number; value = zero_stays d j })
 
   -- … and has its refusal
   pub coarse_rank_refusal : (i : ℕ) → (result_of (rank_call row count i)).refusal ≡ refusal_of (coarse_rank_call row count d i)

@@ -4,11 +4,11 @@ pub mod Selects
 pub mod RankAndSelect
 pub mod CoarseKeepsToRule
 pub mod Judged
-pub mod CountingOnes
 pub mod Searching
 pub mod TableOfPlaces
 pub mod Asked
 pub mod CallsUndo
+pub mod Returned
 pub mod CoarseCalls
 pub mod OnlyFramesCount
 pub mod Demand1

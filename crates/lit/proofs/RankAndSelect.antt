@@ -6,8 +6,9 @@ use mathlib.Core.List.{List, [], ◌∷◌}
 use mathlib.Core.Logic.{◌⊎◌, inl, inr}
 use mathlib.Core.Path.{◌≡◌, ap, ◌∙◌}
 use lib.ListN.{get_or, take}
+use Rattle.std.proofs.lemmas.Bool.{cases_lt}
 use Rattle.bits.specs.Ones.{ones_of}
-use Rattle.bits.proofs.Promises.{le_or_lt, ones_none, ones_dark, ones_lit}
+use Rattle.bits.proofs.Promises.{ones_none, ones_dark, ones_lit}
 use Rattle.lit.specs.RankSelect.{rank_of, select_of}
 use Rattle.lit.proofs.Ranks.{rank_rest, rank_grows}
 use Rattle.lit.proofs.Selects.{select_dark, select_lit, select_place, select_ahead}
@@ -74,9 +75,9 @@ select_least k row p before = select_ahead p row k before
 
 -- SELECT GROWS: a later one has a later place
 pub select_grows : (row : List ℕ) (j k : ℕ) → j < k → k ≤ ones_of row → select_of j row < select_of k row
-select_grows row j k less h = by (le_or_lt (select_of k row) (select_of j row))
+select_grows row j k less h = by (cases_lt (select_of j row) (select_of k row))
   where
-    by : (select_of k row ≤ select_of j row) ⊎ (select_of j row < select_of k row) → select_of j row < select_of k row
-    by (inl back) =
+    by : (select_of j row < select_of k row) ⊎ (select_of k row ≤ select_of j row) → select_of j row < select_of k row
+    by (inr back) =
         absurd (omega (arith, rank_grows row back, rank_of_select k row h, rank_of_select j row (omega arith)))
-    by (inr on) = on
+    by (inl on) = on

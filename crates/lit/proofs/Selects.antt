@@ -8,8 +8,9 @@ use mathlib.Core.Logic.{◌⊎◌, inl, inr}
 use mathlib.Core.Path.{◌≡◌, refl, sym, ap, ◌∙◌}
 use lib.ListN.{length, get_or, take, drop, length-take, take-append-drop, get_or-append, get_or-eq_default}
 use lib.Seq.{get_or-append-add, length-take-le, take_all}
+use Rattle.std.proofs.lemmas.Bool.{cases_lt}
 use Rattle.bits.specs.Ones.{ones_of}
-use Rattle.bits.proofs.Promises.{le_or_lt, ones_none, ones_dark, ones_lit}
+use Rattle.bits.proofs.Promises.{ones_none, ones_dark, ones_lit}
 use Rattle.lit.specs.RankSelect.{rank_of, one_places, select_of}
 use Rattle.lit.proofs.Places.{length_places, places_append, places_from}
 use Rattle.lit.proofs.Ranks.{rank_join, rank_rest}
@@ -76,11 +77,11 @@ module _ (m : ℕ) (row : List ℕ) where
 
   -- so that one whose place is past m is not passed at m
   pub select_ahead : (k : ℕ) → m < select_of k row → rank_of m row < k
-  select_ahead k ahead = by (le_or_lt k (rank_of m row))
+  select_ahead k ahead = by (cases_lt (rank_of m row) k)
     where
-      by : (k ≤ rank_of m row) ⊎ (rank_of m row < k) → rank_of m row < k
-      by (inl passed) = absurd (omega (arith, select_le k passed))
-      by (inr not) = not
+      by : (rank_of m row < k) ⊎ (k ≤ rank_of m row) → rank_of m row < k
+      by (inr passed) = absurd (omega (arith, select_le k passed))
+      by (inl not) = not
 
   -- a one that is not passed at m is one of the rest
   pub select_past : (k : ℕ) → m ≤ length row → rank_of m row < k → k ≤ ones_of row
@@ -104,14 +105,14 @@ select_within m n row k within low high =
 
 -- a one within the first n bits has its place in them
 pub select_take_in : (k n : ℕ) (row : List ℕ) → select_of k row ≤ n → select_of k (take n row) ≡ select_of k row
-select_take_in k n row h = by (le_or_lt k (rank_of n row)) (le_or_lt k (ones_of row)) (le_or_lt (length row) n)
+select_take_in k n row h = by (cases_lt (rank_of n row) k) (cases_lt (ones_of row) k) (cases_lt n (length row))
   where
-    by : (k ≤ rank_of n row) ⊎ (rank_of n row < k) → (k ≤ ones_of row) ⊎ (ones_of row < k) → (length row ≤ n) ⊎ (n < length row)
+    by : (rank_of n row < k) ⊎ (k ≤ rank_of n row) → (ones_of row < k) ⊎ (k ≤ ones_of row) → (n < length row) ⊎ (length row ≤ n)
         → select_of k (take n row) ≡ select_of k row
-    by (inl passed) there short = sym (select_passed n row k passed)
-    by (inr not) (inr none) short = select_none k (take n row) not ∙ sym (select_none k row none)
-    by (inr not) (inl there) (inl short) = ap (select_of k) (take_all n row short)
-    by (inr not) (inl there) (inr long) =
+    by (inr passed) there short = sym (select_passed n row k passed)
+    by (inl not) (inl none) short = select_none k (take n row) not ∙ sym (select_none k row none)
+    by (inl not) (inr there) (inr short) = ap (select_of k) (take_all n row short)
+    by (inl not) (inr there) (inl long) =
         absurd
         (omega (
           arith,

@@ -1,10 +1,11 @@
--- The table of places by its rule. All its 2,048 entries are computed and compared with the constant at once, in table/in_byte/Proof.antt; the law
+-- The table of places by its rule. All its 2,048 entries are computed and compared with the constant at once, in table/in_byte/Answers.antt; the law
 -- here carries that to each entry.
 -- Assumes nothing.
 use Prim.Native.Nat.{ℕ, zero, suc, ◌+◌, ◌-◌, ◌*◌, ◌/◌, ◌%◌, ◌<◌, ◌≤◌}
 use native.Mathlib.Nat.{add-zero, add-suc, suc-add, zero-add}
 use native.Mathlib.Omega.{arith}
 use mathlib.Core.List.{List, [], ◌∷◌}
+use mathlib.Core.Logic.{◌⊎◌, inl, inr}
 use mathlib.Core.Path.{◌≡◌, sym, ap, ap₂, ◌∙◌}
 use lib.ListN.{get_or}
 use Rattle.bits.proofs.Promises.{digits_of_byte, ones_le}
@@ -42,6 +43,8 @@ by_table byte k small low high =
     ∙ ap₂ (λ (j x : ℕ). select_of j (bits_of x)) nth own
     ∙ ap (select_of k) (sym (digits_of_byte byte))
 
--- a byte has no more than eight ones
-pub none_beyond : (byte k : ℕ) → 8 < k → 0 ≡ place_in_byte byte k
-none_beyond byte k h = sym (ap (select_of k) (digits_of_byte byte) ∙ select_none k (bits_of byte) (omega (arith, ones_le (bits_of byte))))
+-- a byte has no 0th one, and no more than eight
+pub none_outside : (byte k : ℕ) → (k ≡ 0) ⊎ ((k ≡ 0 → ⊥) × (8 < k)) → 0 ≡ place_in_byte byte k
+none_outside byte k (inl none) = rw none
+none_outside byte k (inr (some, beyond)) =
+    sym (ap (select_of k) (digits_of_byte byte) ∙ select_none k (bits_of byte) (omega (arith, ones_le (bits_of byte))))

@@ -7,3 +7,4 @@ pub mod InByte
 pub mod Calls
 pub mod Rules
 pub mod Search
+pub mod Told

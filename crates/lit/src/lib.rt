@@ -6,16 +6,17 @@
 ghost use Rattle.std.specs.Prelude.{◌≡◌};
 ghost use Rattle.refusals.specs.Call.{result_of};
 ghost use Rattle.lit.specs.InByte.{place_in_byte};
+ghost use Rattle.lit.specs.Told.{as_answer};
 ghost use Rattle.lit.specs.Calls.{rank_call, select_call, coarse_rank_call, coarse_select_call};
 
-use refusals::BAD_LIT_CALL;
+use good_row::GoodRow;
+use refusals::Refusal;
 
-mod judge;
-mod ones;
+mod good_row;
 mod search;
 mod table;
 
-// A number, or a refusal with the number 0.
+// A number, or a refusal with the number 0: as C is told it.
 #[repr(C)]
 #[derive(Clone, Copy)]
 pub struct Answer {
@@ -23,7 +24,22 @@ pub struct Answer {
     pub value: usize,
 }
 
+impl From<Result<usize, Refusal>> for Answer {
+    ghost from_gives = { λ answer told. told ≡ as_answer answer };
+
+    fn from(answer: Result<usize, Refusal>) -> Answer {
+        match answer {
+            Ok(value) => Answer { refusal: 0, value },
+            Err(refusal) => Answer {
+                refusal: refusal.number(),
+                value: 0,
+            },
+        }
+    }
+}
+
 // The place of the k-th one in a byte, 1 to 8 from the top bit down; 0 for none, and where k is not 1 to 8.
+// A number and no Option: `uprzezar_in_byte` gives C this number, and the table holds it.
 pub fn in_byte(byte: u8, k: usize) -> u8
     ensures { result ≡ place_in_byte byte k }
 {
@@ -31,78 +47,46 @@ pub fn in_byte(byte: u8, k: usize) -> u8
 }
 
 // How many of the first i frames are lit, of a row of `count` frames.
-pub fn rank(row: &[u8], count: usize, i: usize) -> Answer
-    ensures { result ≡ result_of (rank_call row.now count i) }
+#[tactic(auto, using(crate::proofs::Returned::rank_refused))]
+pub fn rank(row: &[u8], count: usize, i: usize) -> Result<usize, Refusal>
+    ensures { as_answer result ≡ result_of (rank_call row.now count i) }
 {
-    let refusal = judge::call(row.len(), count, count < i);
-    if refusal != 0 {
-        return Answer { refusal, value: 0 };
-    }
-    Answer {
-        refusal: 0,
-        value: ones::of_first(row, i),
-    }
+    GoodRow::judged(row, count)?.rank(i)
 }
 
-// The same rounded down to a multiple of the step. A refused rank is 0, and stays so.
-pub fn rank_coarse(row: &[u8], count: usize, step: usize, i: usize) -> Answer
-    ensures { result ≡ result_of (coarse_rank_call row.now count step i) }
+// The same rounded down to a multiple of the step.
+#[tactic(auto, using(crate::proofs::Returned::coarse_ranks))]
+pub fn rank_coarse(row: &[u8], count: usize, step: usize, i: usize) -> Result<usize, Refusal>
+    ensures { as_answer result ≡ result_of (coarse_rank_call row.now count step i) }
 {
     if step == 0 {
-        return Answer {
-            refusal: BAD_LIT_CALL,
-            value: 0,
-        };
+        return Err(Refusal::BadLitCall);
     }
-    let fine = rank(row, count, i);
-    Answer {
-        refusal: fine.refusal,
-        value: step * (fine.value / step),
-    }
+    Ok(step * (rank(row, count, i)? / step))
 }
 
 // The place, from 1, of the k-th lit frame.
-pub fn select(row: &[u8], count: usize, k: usize) -> Answer
-    ensures { result ≡ result_of (select_call row.now count k) }
+#[tactic(auto, using(crate::proofs::Returned::select_refused))]
+pub fn select(row: &[u8], count: usize, k: usize) -> Result<usize, Refusal>
+    ensures { as_answer result ≡ result_of (select_call row.now count k) }
 {
-    let refusal = judge::call(row.len(), count, k == 0);
-    if refusal != 0 {
-        return Answer { refusal, value: 0 };
-    }
-    let place = search::kth(row, count, k);
-    if place == 0 {
-        return Answer {
-            refusal: BAD_LIT_CALL,
-            value: 0,
-        };
-    }
-    Answer {
-        refusal: 0,
-        value: place,
-    }
+    GoodRow::judged(row, count)?.select(k)
 }
 
 // With t, the last multiple of the step up to k: the k-th lit frame's place if t is k, place 1 if t is 0, and otherwise the place behind the t-th
 // lit frame. The k-th one is looked for in any case, for where it is not there the call is refused.
-pub fn select_coarse(row: &[u8], count: usize, step: usize, k: usize) -> Answer
-    ensures { result ≡ result_of (coarse_select_call row.now count step k) }
+#[tactic(auto, using(crate::proofs::Returned::coarse_selects))]
+pub fn select_coarse(row: &[u8], count: usize, step: usize, k: usize) -> Result<usize, Refusal>
+    ensures { as_answer result ≡ result_of (coarse_select_call row.now count step k) }
 {
     if step == 0 {
-        return Answer {
-            refusal: BAD_LIT_CALL,
-            value: 0,
-        };
+        return Err(Refusal::BadLitCall);
     }
-    let fine = select(row, count, k);
-    if fine.refusal != 0 {
-        return fine;
-    }
+    let good = GoodRow::judged(row, count)?;
+    let place = good.select(k)?;
     let t = step * (k / step);
     if t == k {
-        return fine;
+        return Ok(place);
     }
-    Answer {
-        refusal: 0,
-        value: search::behind(row, count, t),
-    }
+    Ok(good.behind(t))
 }

@@ -75,10 +75,7 @@ const PLACES: [u8; 2048] = *b"\
 pub(crate) fn in_byte(byte: u8, k: usize) -> u8
     ensures { result ≡ place_in_byte byte k }
 {
-    if k == 0 {
-        return 0;
-    }
-    if 8 < k {
+    if k == 0 || 8 < k {
         return 0;
     }
     PLACES[byte as usize * 8 + (k - 1)]

@@ -9,11 +9,12 @@ use Rattle.refusals.specs.Call.{left_of}
 use Rattle.refusals.specs.Demand1.{Numbered, Tells, Settles, Promised}
 use Rattle.refusals.proofs.Calls.{asks_leaves, promised, settled, passed_on_numbered}
 use Rattle.book.specs.declared.Book.{Book}
-use Rattle.book.specs.declared.verdicts.Ruling.{Ruling}
+use Rattle.book.specs.Answers.{Ruling}
 use Rattle.image.specs.Part.{Part, part_of}
-use Rattle.page.specs.declared.Choice.{Choice}
+use Rattle.page.specs.Answers.{Choice}
 use Rattle.page.specs.declared.Ticks.{Ticks}
 use Rattle.page.specs.Shown.{ruling_on}
+use Rattle.page.specs.Told.{as_choice}
 use Rattle.page.specs.Calls.{Lent, lent_by, page_faults, page_call, show_call, part_call}
 use Rattle.page.proofs.show.Reads as show_reads
 use Rattle.page.proofs.raster.Reads as raster_reads
@@ -38,16 +39,16 @@ module _ (book : Book) (window amount : ℕ) (lent : Lent) (ticks : Ticks) where
 
 -- In `a` stand the arguments in their order: record, ring, window, amount, newest image, older image, the ticks.
 pub show_promised : (κs : Lfts 3)
-    → Promised (show_reads.Post κs) (λ r. r) (λ a e. lent_by a.1.0 a.1.1.1.1.0 a.1.1.1.1.1.0)
+    → Promised (show_reads.Post κs) (λ a r. as_choice r) (λ a e. lent_by a.1.0 a.1.1.1.1.0 a.1.1.1.1.1.0)
     (λ a. show_call a.0 a.1.1.0 a.1.1.1.0 (lent_by a.1.0 a.1.1.1.1.0 a.1.1.1.1.1.0) a.1.1.1.1.1.1.0)
     (λ (r : Choice). r.refusal)
 show_promised κs = promised _ _ _ _ (λ a r e p. (p, show_leaves _ _ _ _ _)) _ (λ a. show_tells _ _ _ _ _)
 
 -- Without the ticks: record, ring, window, amount, newest image, older image.
 pub raster_settled : (κs : Lfts 2)
-    → Settles {Shown = Part} {Lent = Lent} (raster_reads.Post κs) part_of (λ a e. lent_by a.1.0 a.1.1.1.1.0 a.1.1.1.1.1.0)
+    → Settles {Shown = Part} {Lent = Lent} (raster_reads.Post κs) (λ a r. part_of r) (λ a e. lent_by a.1.0 a.1.1.1.1.0 a.1.1.1.1.1.0)
 unfolding part_call page_call
 raster_settled κs =
-    settled (raster_reads.Post κs) part_of (λ a e. lent_by a.1.0 a.1.1.1.1.0 a.1.1.1.1.1.0)
+    settled (raster_reads.Post κs) (λ a r. part_of r) (λ a e. lent_by a.1.0 a.1.1.1.1.0 a.1.1.1.1.1.0)
     (λ a. part_call a.0 a.1.1.0 a.1.1.1.0 a.1.0 a.1.1.1.1.0 a.1.1.1.1.1.0)
     (λ a r e p. (p, asks_leaves _ refl))

@@ -6,10 +6,10 @@ use Rattle.refusals.specs.Call.{Call, refusal_of, result_of}
 use Rattle.refusals.proofs.Calls.{result_taken, result_refused}
 use Rattle.refusals.proofs.Laws.{or_else_stops}
 use Rattle.book.specs.declared.Book.{Book}
-use Rattle.book.specs.declared.verdicts.Ruling.{Ruling}
+use Rattle.book.specs.Answers.{Ruling}
 use Rattle.book.specs.Verdict.{refusal_in}
 use Rattle.image.specs.Reading.{numbers_of}
-use Rattle.page.specs.declared.Picture.{Picture}
+use Rattle.page.specs.Answers.{Picture}
 use Rattle.page.specs.Shown.{picture_in, ruling_on}
 use Rattle.page.specs.Calls.{Lent, page_call}
 

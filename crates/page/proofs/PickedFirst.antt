@@ -7,9 +7,9 @@ use Rattle.book.specs.declared.Book.{Book}
 use Rattle.image.specs.Part.{Part, cut}
 use Rattle.image.specs.Promised.{Lies}
 use Rattle.image.proofs.Promises.{reading_lies}
-use Rattle.page.specs.declared.Picture.{Picture}
+use Rattle.page.specs.Answers.{Picture}
 use Rattle.page.specs.declared.Ticks.{Ticks}
-use Rattle.page.specs.declared.picking.Picked.{Picked}
+use Rattle.page.specs.Answers.{Picked}
 use Rattle.page.specs.Shown.{of_shown, age_shown}
 use Rattle.page.specs.Calls.{Lent, lent_by, page_call, choice_of, no_choice, show_call, part_call}
 use Rattle.page.specs.Picked.{no_picture, pick_call}

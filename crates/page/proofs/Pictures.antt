@@ -3,8 +3,8 @@
 use Rattle.std.proofs.Common.{◌≡◌, ℕ, ◌+◌, ◌-◌, List, [], sym, refl, arith, Bor}
 use Rattle.image.specs.Reading.{numbers_of}
 use Rattle.image.specs.Part.{cut, raster_of, empty_part}
-use Rattle.page.specs.declared.Picture.{Picture}
-use Rattle.page.specs.declared.Picture.TheVariants.{Neither, Newest, Older}
+use Rattle.page.specs.Answers.{Picture}
+use Rattle.page.specs.Answers.{Neither, Newest, Older}
 use Rattle.page.specs.Shown.{of_shown}
 
 -- what is made of that which belongs to the picture shown is what belongs to it of that which is made of both

@@ -7,8 +7,8 @@ use Rattle.refusals.proofs.Calls.{result_taken, result_refused, result_number, r
 use Rattle.book.specs.declared.Book.{Book}
 use Rattle.book.specs.declared.verdicts.Verdict.{Verdict}
 use Rattle.book.specs.declared.verdicts.Verdict.TheVariants.{Live, Frozen, Undecided, Resting}
-use Rattle.book.specs.declared.verdicts.Ruling.{Ruling}
-use Rattle.book.specs.declared.verdicts.Ruling.TheVariants.{Told, Refused}
+use Rattle.book.specs.Answers.{Ruling}
+use Rattle.book.specs.Answers.{Told, Refused}
 use Rattle.book.specs.Verdict.{verdict_now, verdict_number, refusal_in, ruling_number}
 use Rattle.book.specs.Figure.{figure}
 use Rattle.book.specs.Calls.{verdict_call}
@@ -16,9 +16,9 @@ use Rattle.book.proofs.Promises.{verdict_tells, verdict_gives}
 use Rattle.image.specs.Reading.{numbers_of}
 use Rattle.image.specs.Part.{cut, raster_of, empty_part}
 use Rattle.image.proofs.Promises.{reading_lies}
-use Rattle.page.specs.declared.Picture.{Picture}
-use Rattle.page.specs.declared.Picture.TheVariants.{Newest, Older}
-use Rattle.page.specs.declared.Choice.{Choice}
+use Rattle.page.specs.Answers.{Picture}
+use Rattle.page.specs.Answers.{Newest, Older}
+use Rattle.page.specs.Answers.{Choice}
 use Rattle.page.specs.Ages.{full_turn, age_of, tick_at, ticks_at}
 use Rattle.page.specs.Shown.{picture_by, picture_in, ruling_on, of_shown, age_shown}
 use Rattle.page.specs.Calls.{Lent, lent_by, page_call, choice_of, no_choice, show_call, part_call}

@@ -3,9 +3,9 @@ use Rattle.std.specs.Prelude.{ℕ, List}
 use Rattle.std.specs.Borrow.{Bor}
 use Rattle.refusals.specs.Call.{refusal_of, result_of}
 use Rattle.book.specs.declared.Book.{Book}
-use Rattle.book.specs.declared.verdicts.Ruling.{Ruling}
+use Rattle.book.specs.Answers.{Ruling}
 use Rattle.image.specs.Part.{Part}
-use Rattle.page.specs.declared.Choice.{Choice}
+use Rattle.page.specs.Answers.{Choice}
 use Rattle.page.specs.declared.Ticks.{Ticks}
 use Rattle.page.specs.Shown.{ruling_on}
 use Rattle.page.specs.Calls.{lent_by, show_call, part_call}

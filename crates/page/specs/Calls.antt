@@ -5,13 +5,13 @@ use Rattle.std.specs.Borrow.{Bor}
 use Rattle.refusals.specs.First.{Fault, passed_on}
 use Rattle.refusals.specs.Call.{Call}
 use Rattle.book.specs.declared.Book.{Book}
-use Rattle.book.specs.declared.verdicts.Ruling.{Ruling}
+use Rattle.book.specs.Answers.{Ruling}
 use Rattle.book.specs.Verdict.{refusal_in}
 use Rattle.image.specs.Reading.{numbers_of}
 use Rattle.image.specs.Part.{Part, raster_of, empty_part}
-use Rattle.page.specs.declared.Picture.{Picture}
-use Rattle.page.specs.declared.Picture.TheVariants.{Neither}
-use Rattle.page.specs.declared.Choice.{Choice}
+use Rattle.page.specs.Answers.{Picture}
+use Rattle.page.specs.Answers.{Neither}
+use Rattle.page.specs.Answers.{Choice}
 use Rattle.page.specs.declared.Ticks.{Ticks}
 use Rattle.page.specs.Shown.{picture_in, ruling_on, of_shown, age_shown}
 

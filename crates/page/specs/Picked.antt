@@ -4,9 +4,9 @@ use Rattle.std.specs.Prelude.{ℕ}
 use Rattle.refusals.specs.Call.{Call}
 use Rattle.book.specs.declared.Book.{Book}
 use Rattle.image.specs.Reading.{numbers_of}
-use Rattle.page.specs.declared.Picture.{Picture}
-use Rattle.page.specs.declared.Picture.TheVariants.{Neither}
-use Rattle.page.specs.declared.picking.Picked.{Picked}
+use Rattle.page.specs.Answers.{Picture}
+use Rattle.page.specs.Answers.{Neither}
+use Rattle.page.specs.Answers.{Picked}
 use Rattle.page.specs.Shown.{of_shown}
 use Rattle.page.specs.Calls.{Lent, page_call}
 

@@ -4,11 +4,11 @@ use Rattle.refusals.specs.Call.{result_of}
 use Rattle.book.specs.declared.Book.{Book}
 use Rattle.book.specs.declared.verdicts.Verdict.{Verdict}
 use Rattle.book.specs.declared.verdicts.Verdict.TheVariants.{Live, Frozen, Undecided, Resting}
-use Rattle.book.specs.declared.verdicts.Ruling.{Ruling}
-use Rattle.book.specs.declared.verdicts.Ruling.TheVariants.{Told, Refused}
+use Rattle.book.specs.Answers.{Ruling}
+use Rattle.book.specs.Answers.{Told, Refused}
 use Rattle.book.specs.Calls.{verdict_call}
-use Rattle.page.specs.declared.Picture.{Picture}
-use Rattle.page.specs.declared.Picture.TheVariants.{Neither, Newest, Older}
+use Rattle.page.specs.Answers.{Picture}
+use Rattle.page.specs.Answers.{Neither, Newest, Older}
 use Rattle.page.specs.declared.Ticks.{Ticks}
 use Rattle.page.specs.Ages.{age_of}
 

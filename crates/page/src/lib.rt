@@ -6,24 +6,23 @@
 ghost use Rattle.std.specs.Prelude.{◌≡◌};
 ghost use Rattle.refusals.specs.Call.{result_of};
 ghost use Rattle.image.specs.Part.{part_of};
+ghost use Rattle.page.specs.Told.{as_choice};
 ghost use Rattle.page.specs.Calls.{lent_by, show_call, part_call};
 
 use book::Book;
+use refusals::Refusal;
 
 mod picking;
 
 #[derive(Clone, Copy)]
 pub enum Picture {
-    Neither,
     Newest,
     Older,
 }
 
-// A refusal number, 0 for none; which picture is shown; where its raster lies in its own slice; and its age in ticks. With a refusal it is neither
-// picture, and all other numbers are 0.
+// Which picture is shown, where its raster lies in its own slice, and its age in ticks.
 #[derive(Clone, Copy)]
 pub struct Choice {
-    pub refusal: u8,
     pub picture: Picture,
     pub offset: usize,
     pub length: usize,
@@ -48,29 +47,17 @@ pub fn show(
     newest: &[u8],
     older: &[u8],
     ticks: Ticks,
-) -> Choice
-    ensures { result ≡ result_of (show_call book window amount (lent_by ring.entry newest.entry older.entry) ticks) }
+) -> Result<Choice, Refusal>
+    ensures { as_choice result ≡ result_of (show_call book window amount (lent_by ring.entry newest.entry older.entry) ticks) }
 {
-    let picked = picking::pick(book, ring, window, amount, newest, older);
-    if picked.refusal != 0 {
-        return Choice {
-            refusal: picked.refusal,
-            picture: Picture::Neither,
-            offset: 0,
-            length: 0,
-            age: 0,
-        };
-    }
-    let picture = picked.picture;
-    let length = picked.end - picked.start;
-    let own = picking::tick_of(picture, ticks.newest, ticks.older);
-    Choice {
-        refusal: 0,
-        picture,
+    let picked = picking::pick(book, ring, window, amount, newest, older)?;
+    let own = picking::of_shown(picked.picture, ticks.newest, ticks.older);
+    Ok(Choice {
+        picture: picked.picture,
         offset: picked.start,
-        length,
+        length: picked.end - picked.start,
         age: picking::age(ticks.present, own),
-    }
+    })
 }
 
 // The raster of that picture, as the part of its slice in which it lies; where the call is refused, the empty part at the start of `newest`.
@@ -84,10 +71,11 @@ pub fn raster<'a>(
 ) -> &'a [u8]
     ensures { part_of result ≡ result_of (part_call book window amount ring.entry newest.entry older.entry) }
 {
-    let picked = picking::pick(book, ring, window, amount, newest, older);
-    let picture = picked.picture;
-    let start = picked.start;
-    let end = picked.end;
-    let slice = picking::slice_of(picture, newest, older);
-    &slice[start..end]
+    match picking::pick(book, ring, window, amount, newest, older) {
+        Ok(picked) => {
+            let slice = picking::of_shown(picked.picture, newest, older);
+            &slice[picked.start..picked.end]
+        }
+        Err(_) => &newest[..0],
+    }
 }

@@ -2,96 +2,43 @@
 // picture that is shown (specs/Shown.antt).
 ghost use Rattle.std.specs.Prelude.{◌≡◌};
 ghost use Rattle.refusals.specs.Call.{result_of};
-ghost use Rattle.book.specs.Verdict.{refusal_in};
 ghost use Rattle.page.specs.Ages.{age_of};
-ghost use Rattle.page.specs.Shown.{picture_by, picture_in, of_shown};
+ghost use Rattle.page.specs.Shown.{picture_by, of_shown};
 ghost use Rattle.page.specs.Calls.{lent_by};
-ghost use Rattle.page.specs.Picked.{no_picture, pick_call};
+ghost use Rattle.page.specs.Picked.{pick_call};
+ghost use Rattle.page.specs.Told.{as_picture, as_picked};
 
 use crate::Picture;
 use book::Book;
-use book::verdicts::{Ruling, Verdict};
-use image::Numbers;
+use book::verdicts::Verdict;
+use refusals::Refusal;
 
 #[derive(Clone, Copy)]
 pub(crate) struct Picked {
-    pub refusal: u8,
     pub picture: Picture,
     pub start: usize,
     pub end: usize,
 }
 
-fn no_picture(refusal: u8) -> Picked
-    ensures { result ≡ no_picture refusal }
-{
-    Picked {
-        refusal,
-        picture: Picture::Neither,
-        start: 0,
-        end: 0,
-    }
-}
+// The newest if the verdict is live, otherwise the older one.
+impl From<Verdict> for Picture {
+    ghost from_gives = { λ verdict picture. as_picture picture ≡ picture_by verdict };
 
-fn picture_by(verdict: Verdict) -> Picture
-    ensures { result ≡ picture_by verdict }
-{
-    match verdict {
-        Verdict::Live(_) => Picture::Newest,
-        Verdict::Frozen(_) => Picture::Older,
-        Verdict::Undecided(_) => Picture::Older,
-        Verdict::Resting(_) => Picture::Older,
-    }
-}
-
-fn picture_in(ruling: Ruling) -> Picture
-    ensures { result ≡ picture_in ruling }
-{
-    match ruling {
-        Ruling::Told(notice) => {
-            let verdict = notice.verdict;
-            picture_by(verdict)
+    fn from(verdict: Verdict) -> Picture {
+        match verdict {
+            Verdict::Live(_) => Picture::Newest,
+            Verdict::Frozen(_) => Picture::Older,
+            Verdict::Undecided(_) => Picture::Older,
+            Verdict::Resting(_) => Picture::Older,
         }
-        Ruling::Refused(_) => Picture::Neither,
     }
 }
 
-fn refusal_in(ruling: Ruling) -> u8
-    ensures { result ≡ refusal_in ruling }
-{
-    match ruling {
-        Ruling::Told(_) => 0,
-        Ruling::Refused(refusal) => refusal,
-    }
-}
-
-// Of what belongs to the two pictures, that of the one which is shown: its tick, …
-pub(crate) fn tick_of(picture: Picture, newest: u32, older: u32) -> u32
-    ensures { result ≡ of_shown picture newest older }
+// Of what belongs to the two pictures, that of the one which is shown.
+pub(crate) fn of_shown<T: Copy>(picture: Picture, newest: T, older: T) -> T
+    ensures { result ≡ of_shown (as_picture picture) newest older }
 {
     match picture {
-        Picture::Neither => newest,
-        Picture::Newest => newest,
-        Picture::Older => older,
-    }
-}
-
-// … its slice, …
-pub(crate) fn slice_of<'a>(picture: Picture, newest: &'a [u8], older: &'a [u8]) -> &'a [u8]
-    ensures { result ≡ of_shown picture newest.entry older.entry }
-{
-    match picture {
-        Picture::Neither => newest,
-        Picture::Newest => newest,
-        Picture::Older => older,
-    }
-}
-
-// … and its image's numbers.
-fn numbers_of(picture: Picture, newest: Numbers, older: Numbers) -> Numbers
-    ensures { result ≡ of_shown picture newest older }
-{
-    match picture {
-        Picture::Neither => newest,
         Picture::Newest => newest,
         Picture::Older => older,
     }
@@ -101,7 +48,7 @@ fn numbers_of(picture: Picture, newest: Numbers, older: Numbers) -> Numbers
 pub(crate) fn age(present: u32, own: u32) -> u32
     ensures { result ≡ age_of present own }
 {
-    std::num::wrapping_sub_u32(present, own)
+    present.wrapping_sub(own)
 }
 
 // The verdict first, then the newest image, then the other, whichever of them is to be shown.
@@ -112,28 +59,17 @@ pub(crate) fn pick(
     amount: u64,
     newest: &[u8],
     older: &[u8],
-) -> Picked
-    ensures { result ≡ result_of (pick_call book window amount (lent_by ring.entry newest.entry older.entry)) }
+) -> Result<Picked, Refusal>
+    ensures { as_picked result ≡ result_of (pick_call book window amount (lent_by ring.entry newest.entry older.entry)) }
 {
-    let ruling = book::verdict(book, ring, window, amount);
-    let refusal = refusal_in(ruling);
-    if refusal != 0 {
-        return no_picture(refusal);
-    }
-    let newest_numbers = image::header(newest);
-    if newest_numbers.refusal != 0 {
-        return no_picture(newest_numbers.refusal);
-    }
-    let older_numbers = image::header(older);
-    if older_numbers.refusal != 0 {
-        return no_picture(older_numbers.refusal);
-    }
-    let picture = picture_in(ruling);
-    let numbers = numbers_of(picture, newest_numbers, older_numbers);
-    Picked {
-        refusal: 0,
+    let notice = book::verdict(book, ring, window, amount)?;
+    let of_newest = image::header(newest)?;
+    let of_older = image::header(older)?;
+    let picture = Picture::from(notice.verdict);
+    let shown = of_shown(picture, of_newest, of_older);
+    Ok(Picked {
         picture,
-        start: numbers.start,
-        end: numbers.used,
-    }
+        start: shown.start,
+        end: shown.used,
+    })
 }

@@ -216,7 +216,7 @@ module _ {Result Lent : Type 0} (number_in : Result → ℕ) (call : Call Result
             (result_number ∙ e, sym (result_refused call (sym e) (first_not_0 number f)), sym (left_refused call (sym e) (first_not_0 number f))));
       }
 
-module _ {Args Result Exit Shown Lent : Type 0} (Post : Args → Result → Exit → Type 0) (shown : Result → Shown) (after : Args → Exit → Lent)
+module _ {Args Result Exit Shown Lent : Type 0} (Post : Args → Result → Exit → Type 0) (shown : Args → Result → Shown) (after : Args → Exit → Lent)
     (call : Args → Call Shown Lent) (states : States Post shown after call) where
   -- of every function whose statement says what a row says
   pub demand_1 : (number_in : Shown → ℕ) → ((a : Args) → Tells number_in (call a)) → MeetsDemand1 Post shown after call number_in
@@ -235,9 +235,9 @@ module _ {Args Result Exit Shown Lent : Type 0} (Post : Args → Result → Exit
   promised number_in tells = record { demand_1 = demand_1 number_in tells; settled = settled }
 
 -- and of every function that gives a row's result in another form
-pub seen_promised : {Args Result Exit Own Shown Lent : Type 0} (Post : Args → Result → Exit → Type 0) (shown : Result → Shown)
+pub seen_promised : {Args Result Exit Own Shown Lent : Type 0} (Post : Args → Result → Exit → Type 0) (shown : Args → Result → Shown)
     (after : Args → Exit → Lent) (form : Own → Shown) (call : Args → Call Own Lent)
-    → ((a : Args) (r : Result) (e : Exit) → Post a r e → (shown r ≡ form (result_of (call a))) × (after a e ≡ left_of (call a)))
+    → ((a : Args) (r : Result) (e : Exit) → Post a r e → (shown a r ≡ form (result_of (call a))) × (after a e ≡ left_of (call a)))
     → (number_in : Shown → ℕ) → ((a : Args) → Tells (λ r. number_in (form r)) (call a))
     → Promised Post shown after (λ a. seen_as form (call a)) number_in
 unfolding left_of

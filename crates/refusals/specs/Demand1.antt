@@ -45,25 +45,25 @@ pub record Demand1 {Result Lent : Type 0} (number_in : Result → ℕ) (call : C
       → (number_in result ≡ number) × (result ≡ call.back number) × (after ≡ call.lent)
 
 -- A function's statement, over its arguments, its result and its parameters as it returns, says what a row says.
--- shown: what a caller can see of the result. after: what was lent, as the function returns.
-abbrev pub States : {Args Result Exit Shown Lent : Type 0} → (Args → Result → Exit → Type 0) → (Result → Shown) → (Args → Exit → Lent)
+-- shown: what a caller can see of the result, who knows the arguments too. after: what was lent, as the function returns.
+abbrev pub States : {Args Result Exit Shown Lent : Type 0} → (Args → Result → Exit → Type 0) → (Args → Result → Shown) → (Args → Exit → Lent)
     → (Args → Call Shown Lent) → Type 0
 States {Args} {Result} {Exit} Post shown after call =
-    (a : Args) (r : Result) (e : Exit) → Post a r e → (shown r ≡ result_of (call a)) × (after a e ≡ left_of (call a))
+    (a : Args) (r : Result) (e : Exit) → Post a r e → (shown a r ≡ result_of (call a)) × (after a e ≡ left_of (call a))
 
 -- Demand 1 of a function: of every outcome that its statement allows
-abbrev pub MeetsDemand1 : {Args Result Exit Shown Lent : Type 0} → (Args → Result → Exit → Type 0) → (Result → Shown) → (Args → Exit → Lent)
+abbrev pub MeetsDemand1 : {Args Result Exit Shown Lent : Type 0} → (Args → Result → Exit → Type 0) → (Args → Result → Shown) → (Args → Exit → Lent)
     → (Args → Call Shown Lent) → (Shown → ℕ) → Type 0
 MeetsDemand1 {Args} {Result} {Exit} Post shown after call number_in =
-    (a : Args) (r : Result) (e : Exit) → Post a r e → Demand1 number_in (call a) (shown r) (after a e)
+    (a : Args) (r : Result) (e : Exit) → Post a r e → Demand1 number_in (call a) (shown a r) (after a e)
 
 -- A statement settles what is seen of a call: any two outcomes that it allows for one set of arguments look the same.
-abbrev pub Settles : {Args Result Exit Shown Lent : Type 0} → (Args → Result → Exit → Type 0) → (Result → Shown) → (Args → Exit → Lent) → Type 0
+abbrev pub Settles : {Args Result Exit Shown Lent : Type 0} → (Args → Result → Exit → Type 0) → (Args → Result → Shown) → (Args → Exit → Lent) → Type 0
 Settles {Args} {Result} {Exit} Post shown after =
-    (a : Args) (r r' : Result) (e e' : Exit) → Post a r e → Post a r' e' → (shown r ≡ shown r') × (after a e ≡ after a e')
+    (a : Args) (r r' : Result) (e e' : Exit) → Post a r e → Post a r' e' → (shown a r ≡ shown a r') × (after a e ≡ after a e')
 
 -- both promises of a function
-pub record Promised {Args Result Exit Shown Lent : Type 0} (Post : Args → Result → Exit → Type 0) (shown : Result → Shown)
+pub record Promised {Args Result Exit Shown Lent : Type 0} (Post : Args → Result → Exit → Type 0) (shown : Args → Result → Shown)
     (after : Args → Exit → Lent) (call : Args → Call Shown Lent) (number_in : Shown → ℕ) : Type 0 where
   pub demand_1 : MeetsDemand1 Post shown after call number_in
   pub settled : Settles Post shown after

@@ -1,4 +1,5 @@
 pub mod Numbers
+pub mod Refused
 pub mod First
 pub mod Call
 pub mod Demand1

@@ -85,16 +85,6 @@ sum_same held held' slots next zero h same = refl
 sum_same held held' slots next (suc j) h same =
     ap₂ ◌+◌ (sum_same held held' slots next j h same) (same (newest slots next (suc j)) (newest_lt slots next (suc j) h))
 
--- a sum back from the end, and one slot more
-pub sum_on : (held : ℕ → ℕ) (end slot : ℕ) → 1 ≤ slot → slot ≤ end
-    → sum_newest held end end (end - (slot - 1)) ≡ sum_newest held end end (end - slot) + held (slot - 1)
-sum_on held end slot low high =
-    let more : end - (slot - 1) ≡ suc (end - slot) = omega arith in
-    let here : newest end end (suc (end - slot)) ≡ slot - 1 = newest_near end end (suc (end - slot)) (omega arith) ∙ omega arith in
-    ap (sum_newest held end end) more
-    ∙ sum_more held end end (end - slot)
-    ∙ ap (λ (at : ℕ). sum_newest held end end (end - slot) + held at) here
-
 -- n + m slots back from an end: the last n, and the m before them
 pub sum_join : (held : ℕ → ℕ) (at n m : ℕ) → m ≤ at
     → sum_newest held (at + n) (at + n) (n + m) ≡ sum_newest held (at + n) (at + n) n + sum_newest held at at m
@@ -106,6 +96,14 @@ sum_join held at n (suc m) h =
     rw (add-suc n m) (
     ap₂ (λ (sum slot : ℕ). sum + held slot) (sum_join held at n m (omega arith)) here
     ∙ add_assoc (sum_newest held (at + n) (at + n) n) (sum_newest held at at m) (held (newest at at (suc m))))
+
+-- the sum of the slots from `start` on, and the slot behind them
+pub sum_upward : (held : ℕ → ℕ) (start end : ℕ) → start ≤ end
+    → sum_newest held (end + 1) (end + 1) (end + 1 - start) ≡ sum_newest held end end (end - start) + held end
+sum_upward held start end low =
+    let more : end + 1 - start ≡ 1 + (end - start) = omega arith in
+    let last : newest (end + 1) (end + 1) 1 ≡ end = newest_near (end + 1) (end + 1) 1 (omega arith) ∙ omega arith in
+    rw (more, sum_join held end 1 (end - start) (omega arith), sum_more held (end + 1) (end + 1) 0, sum_none held (end + 1) (end + 1), last) (omega arith)
 
 -- a sum that does not come to slot 0 is that of a ring which ends at `next` …
 pub sum_near : (held : ℕ → ℕ) (slots next j : ℕ) → j ≤ next → sum_newest held slots next j ≡ sum_newest held next next j
@@ -126,6 +124,13 @@ sum_far held slots next (suc k) h =
     ap (λ (n : ℕ). n + held (newest slots next (suc (next + k)))) (sum_far held slots next k (omega arith))
     ∙ ap (λ (slot : ℕ). sum_newest held next next next + sum_newest held slots slots k + held slot) (far ∙ sym near)
     ∙ add_assoc (sum_newest held next next next) (sum_newest held slots slots k) (held (newest slots slots (suc k))))
+
+-- so a sum that passes slot 0 is that of all slots below `next`, and of the last ones of the ring
+pub sum_past : (held : ℕ → ℕ) (slots next j : ℕ) → next ≤ j → j ≤ slots
+    → sum_newest held slots next j ≡ sum_newest held next next next + sum_newest held slots slots (j - next)
+sum_past held slots next j low high =
+    let all : next + (j - next) ≡ j = omega arith in
+    rw all at (sum_far held slots next (j - next) (omega arith))
 
 -- a sum of j slots that each hold at most `most`
 pub sum_le : (held : ℕ → ℕ) (most : ℕ) → ((slot : ℕ) → held slot ≤ most) → (slots next j : ℕ) → sum_newest held slots next j ≤ j * most

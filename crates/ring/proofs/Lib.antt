@@ -1,7 +1,6 @@
 pub mod Fields
 pub mod Around
 pub mod OnesOfPart
-pub mod CountingOnes
 pub mod Refused
 pub mod Demand1
 pub mod Promises

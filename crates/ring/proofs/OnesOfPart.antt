@@ -6,10 +6,11 @@ use native.Mathlib.Omega.{arith}
 use mathlib.Core.List.{List}
 use mathlib.Core.Path.{◌≡◌, sym, ap, ap₂, ◌∙◌}
 use lib.Count.{ones, ones_cat, ones-ones}
-use lib.ListN.{length}
+use lib.ListN.{length, take, drop}
 use lib.Pow.{mod-pow-add, shr-shr}
-use Rattle.bits.specs.Row.{part_at}
-use Rattle.bits.proofs.Promises.{word_of, part_lt, read_word}
+use Rattle.bits.specs.Row.{bits, part_at}
+use Rattle.bits.specs.Ones.{ones_of, ones_between}
+use Rattle.bits.proofs.Promises.{word_of, part_lt, read_word, ones_of_part as ones_of_bits}
 use Rattle.ring.specs.Slot.{field}
 use Rattle.ring.specs.Newest.{newest, sum_newest}
 use Rattle.ring.proofs.Around.{sum_none, sum_more, newest_near}
@@ -55,3 +56,15 @@ ones_of_part ring (suc width) from within =
     ∙ add_comm (part_at from 1 ring) (sum_newest (field 1 ring) (from + 1 + width) (from + 1 + width) width)
     ∙ ap₂ (λ (e at : ℕ). sum_newest (field 1 ring) e e width + part_at at 1 ring) same (sym here)
     ∙ sym (sum_more (field 1 ring) end end width)
+
+-- so the ones between two bits are the sum of the slots that lie there
+pub between_is_sum : (ring : List ℕ) (end n : ℕ) → n ≤ end → end ≤ length ring * 8
+    → ones_between (end - n) end ring ≡ sum_newest (field 1 ring) end end n
+between_is_sum ring end n within there =
+    let from : ℕ = end - n in
+    let many : end - from ≡ n = omega arith in
+    let last : from + n ≡ end = omega arith in
+    ap (λ (k : ℕ). ones_of (take k (drop from (bits ring)))) many
+    ∙ sym (ones_of_bits from n ring)
+    ∙ ones_of_part ring n from (omega arith)
+    ∙ ap (λ (k : ℕ). sum_newest (field 1 ring) k k n) last

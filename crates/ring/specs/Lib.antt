@@ -1,6 +1,6 @@
 pub mod Limits
 pub mod Slot
 pub mod Newest
-pub mod Ones
 pub mod Lent
 pub mod Calls
+pub mod Told

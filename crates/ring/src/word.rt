@@ -1,5 +1,6 @@
 // Words of one to four bytes, the highest byte first. A slot of at most 16 bits lies within three bytes.
-ghost use Rattle.std.specs.Prelude.{◌≡◌, ◌++◌, ◌+◌, ◌≤◌, ◌<◌, ◌*◌, ◌/◌, ◌%◌, ◌^◌, length, get_or, take, drop};
+ghost use Rattle.std.specs.Prelude.{◌≡◌, ◌++◌, ◌+◌, ◌≤◌, ◌<◌, ◌*◌, ◌/◌, ◌%◌, ◌^◌, length, take, drop};
+ghost use Rattle.bits.specs.Bytes.{Bytes};
 ghost use Rattle.bits.specs.Row.{digits, number, bits, packed};
 
 // 2 to the power n.
@@ -10,57 +11,66 @@ pub(crate) fn power(n: usize) -> u64
     1u64 << n
 }
 
-// The byte at a place, as a wider number.
-pub(crate) fn byte(ring: &[u8], at: usize) -> u64
-    requires { at < length ring.now }
-    ensures { (result ≡ get_or ring.now at 0) × (result ≤ 255) }
-{
-    ring[at] as u64
-}
-
-// The number that the `count` bytes from `first` on write.
-pub(crate) fn load(ring: &[u8], first: usize, count: usize) -> u64
-    requires { (1 ≤ count) × (count ≤ 3) × (first + count ≤ length ring.now) }
-    ensures { result ≡ number (bits (take count (drop first ring.now))) }
-{
-    let one = byte(ring, first);
-    if count == 1 {
-        return one;
-    }
-    let two = one * 256 + byte(ring, first + 1);
-    if count == 2 {
-        return two;
-    }
-    two * 256 + byte(ring, first + 2)
-}
-
 // The number that the four bytes from `first` on write. (The compiler makes one load of the four.)
 pub(crate) fn load_four(ring: &[u8], first: usize) -> u64
     requires { first + 4 ≤ length ring.now }
     ensures { result ≡ number (bits (take 4 (drop first ring.now))) }
 {
-    let two = byte(ring, first) * 256 + byte(ring, first + 1);
-    let three = two * 256 + byte(ring, first + 2);
-    three * 256 + byte(ring, first + 3)
+    let four = [
+        ring[first],
+        ring[first + 1],
+        ring[first + 2],
+        ring[first + 3],
+    ];
+    u64::from(u32::from_be_bytes(four))
 }
 
-// Puts the lowest `count` bytes of `word` in the place of the bytes from `first` on.
-pub(crate) fn store(ring: &mut [u8], first: usize, count: usize, word: u64)
-    requires { (1 ≤ count) × (count ≤ 3) × (first + count ≤ length ring.old) }
-    ensures { ring.new ≡ take first ring.old ++ (packed count (digits (count * 8) word) ++ drop count (drop first ring.old)) }
-{
-    if count == 1 {
-        ring[first] = (word % 256) as u8;
-        return;
+// Where a slot lies: in the word of `count` bytes from `first` on, with `after` bits behind it. It is read and written through this word.
+#[derive(Clone, Copy)]
+pub(crate) struct Place {
+    pub(crate) first: usize,
+    pub(crate) count: usize,
+    pub(crate) after: usize,
+    ghost short: { (1 ≤ count) × (count ≤ 3) × (after < 8) },
+}
+
+impl Place {
+    // The word. By cases: with a loop over the bytes a write took 78 instructions and not 44.
+    pub(crate) fn load(self, ring: &[u8]) -> u64
+        requires { self.first + self.count ≤ length ring.now }
+        ensures word { result ≡ number (bits (take self.count (drop self.first ring.now))) }
+        ensures bytes { Bytes ring.now }
+    {
+        let one = u64::from(ring[self.first]);
+        if self.count == 1 {
+            return one;
+        }
+        let two = one * 256 + u64::from(ring[self.first + 1]);
+        if self.count == 2 {
+            return two;
+        }
+        two * 256 + u64::from(ring[self.first + 2])
     }
-    if count == 2 {
-        ring[first] = (word / 256 % 256) as u8;
-        ring[first + 1] = (word % 256) as u8;
-        return;
+
+    // Puts the lowest `count` bytes of a word in the place of these bytes, by cases as they are loaded.
+    pub(crate) fn store(self, ring: &mut [u8], word: u64)
+        requires { self.first + self.count ≤ length ring.old }
+        ensures { ring.new ≡ take self.first ring.old ++ (packed self.count (digits (self.count * 8) word) ++ drop self.count (drop self.first ring.old)) }
+    {
+        let first = self.first;
+        if self.count == 1 {
+            ring[first] = (word % 256) as u8;
+            return;
+        }
+        if self.count == 2 {
+            ring[first] = (word / 256 % 256) as u8;
+            ring[first + 1] = (word % 256) as u8;
+            return;
+        }
+        ring[first] = (word / 65536 % 256) as u8;
+        ring[first + 1] = (word / 256 % 256) as u8;
+        ring[first + 2] = (word % 256) as u8;
     }
-    ring[first] = (word / 65536 % 256) as u8;
-    ring[first + 1] = (word / 256 % 256) as u8;
-    ring[first + 2] = (word % 256) as u8;
 }
 
 // The word with `value` in the place of the `width` bits that have `after` bits behind them.

@@ -7,9 +7,10 @@ use mathlib.Core.Path.{refl}
 use contract.Lifetimes.{Lfts}
 use Rattle.refusals.specs.Demand1.{Tells, Promised}
 use Rattle.refusals.proofs.Calls.{promised, tells}
-use Rattle.rows.specs.declared.Wrote.{Wrote}
+use Rattle.rows.specs.Answers.{Wrote}
 use Rattle.rows.specs.Row.{row_text, refused_text, head_text}
 use Rattle.rows.specs.Calls.{line_call}
+use Rattle.rows.specs.Told.{as_wrote}
 use Rattle.rows.proofs.head.Reads as head_reads
 use Rattle.rows.proofs.row.Reads as row_reads
 use Rattle.rows.proofs.refused.Reads as refused_reads
@@ -19,13 +20,13 @@ unfolding line_call
 line_tells out text = tells tt refl (λ number. refl)
 
 module _ (κs : Lfts 1) where
-  pub head_promised : Promised (head_reads.Post κs) (λ r. r) (λ a e. e.0.now) (λ a. line_call a.0.now head_text) (λ (w : Wrote). w.refusal)
-  head_promised = promised _ _ _ _ (λ a r e p. p) _ (λ a. line_tells _ _)
+  pub head_promised : Promised (head_reads.Post κs) (λ a r. as_wrote r) (λ a e. e.0.now) (λ a. line_call a.0.now head_text) (λ (w : Wrote). w.refusal)
+  head_promised = promised _ _ _ _ (λ a r e p. p.0) _ (λ a. line_tells _ _)
 
-  pub row_promised : Promised (row_reads.Post κs) (λ r. r) (λ a e. e.0.now)
+  pub row_promised : Promised (row_reads.Post κs) (λ a r. as_wrote r) (λ a e. e.0.now)
       (λ a. line_call a.0.now (row_text a.1.0 a.1.1.0 a.1.1.1.0 a.1.1.1.1.0 a.1.1.1.1.1.0)) (λ (w : Wrote). w.refusal)
-  row_promised = promised _ _ _ _ (λ a r e p. p) _ (λ a. line_tells _ _)
+  row_promised = promised _ _ _ _ (λ a r e p. p.0) _ (λ a. line_tells _ _)
 
-  pub refused_promised : Promised (refused_reads.Post κs) (λ r. r) (λ a e. e.0.now)
+  pub refused_promised : Promised (refused_reads.Post κs) (λ a r. as_wrote r) (λ a e. e.0.now)
       (λ a. line_call a.0.now (refused_text a.1.0 a.1.1.0)) (λ (w : Wrote). w.refusal)
-  refused_promised = promised _ _ _ _ (λ a r e p. p) _ (λ a. line_tells _ _)
+  refused_promised = promised _ _ _ _ (λ a r e p. p.0) _ (λ a. line_tells _ _)

@@ -1,6 +1,7 @@
 -- No line is longer than `line_most` bytes, as long as its numbers are of 64 bits (each has 20 digits then, at most); so a buffer that is
 -- not refused takes every byte of its line.
 -- Assumes nothing.
+use Rattle.std.specs.Prelude.{Option, None, Some}
 use Prim.Native.Nat.{ℕ, ◌^◌, ◌≤◌, ◌<◌}
 use native.Mathlib.Nat.{zero-add}
 use native.Mathlib.Omega.{arith}
@@ -12,8 +13,6 @@ use Rattle.refusals.specs.Call.{left_of}
 use Rattle.refusals.proofs.Calls.{left_taken}
 use Rattle.decimals.specs.Decimal.{decimal}
 use Rattle.decimals.proofs.Digits.{decimal_20}
-use Rattle.rows.specs.declared.Scored.{Scored}
-use Rattle.rows.specs.declared.Scored.TheVariants.{First, By}
 use Rattle.rows.specs.declared.Word.{Word}
 use Rattle.rows.specs.declared.Word.TheVariants.{Early, Live, Frozen, Undecided, Resting}
 use Rattle.rows.specs.Ascii.{ascii}
@@ -22,18 +21,18 @@ use Rattle.rows.specs.Calls.{line_most, line_call}
 use Rattle.rows.proofs.Writing.{line_fits}
 
 -- the score, where there is one, is below a number
-abbrev pub ScoreBelow : ℕ → Scored → Type 0
-ScoreBelow bound First = Unit {0}
-ScoreBelow bound (By score) = score < bound
+abbrev pub ScoreBelow : ℕ → Option ℕ → Type 0
+ScoreBelow bound None = Unit {0}
+ScoreBelow bound (Some score) = score < bound
 
 field_fits : (n : ℕ) → n < 2 ^ 64 → length (field_text n) ≤ 21
 unfolding field_text
 field_fits n h = omega (arith, length-append (decimal n) (comma ∷ []), decimal_20 n h)
 
-score_fits : (scored : Scored) → ScoreBelow (2 ^ 64) scored → length (score_text scored) ≤ 21
+score_fits : (score : Option ℕ) → ScoreBelow (2 ^ 64) score → length (score_text score) ≤ 21
 unfolding score_text
-score_fits First h = omega arith
-score_fits (By score) h = field_fits score h
+score_fits None h = omega arith
+score_fits (Some score) h = field_fits score h
 
 word_fits : (word : Word) → length (word_text word) ≤ 11
 unfolding word_text
@@ -44,22 +43,22 @@ word_fits Undecided = omega arith
 word_fits Resting = omega arith
 
 -- four fields of 21 bytes at most, and a last one of 11: 95
-pub row_fits : (frame : ℕ) (scored : Scored) (kept total : ℕ) (word : Word) → frame < 2 ^ 64 → ScoreBelow (2 ^ 64) scored
-    → kept < 2 ^ 64 → total < 2 ^ 64 → length (row_text frame scored kept total word) ≤ line_most
+pub row_fits : (frame : ℕ) (score : Option ℕ) (kept total : ℕ) (word : Word) → frame < 2 ^ 64 → ScoreBelow (2 ^ 64) score
+    → kept < 2 ^ 64 → total < 2 ^ 64 → length (row_text frame score kept total word) ≤ line_most
 unfolding row_text
-row_fits frame scored kept total word frame_below score-below kept-below total-below =
+row_fits frame score kept total word frame_below score-below kept-below total-below =
     let last = word_text word in
     let from_total = field_text total ++ last in
     let from_kept = field_text kept ++ from_total in
-    let from_score = score_text scored ++ from_kept in
+    let from_score = score_text score ++ from_kept in
     omega (
       arith,
       length-append (field_text frame) from_score,
-      length-append (score_text scored) from_kept,
+      length-append (score_text score) from_kept,
       length-append (field_text kept) from_total,
       length-append (field_text total) last,
       field_fits frame frame_below,
-      score_fits scored score-below,
+      score_fits score score-below,
       field_fits kept kept-below,
       field_fits total total-below,
       word_fits word,

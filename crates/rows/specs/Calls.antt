@@ -4,7 +4,7 @@ use Rattle.std.proofs.lemmas.List.Edits.{sets}
 use Rattle.refusals.specs.Numbers.{buffer_too_short}
 use Rattle.refusals.specs.First.{◌gives◌}
 use Rattle.refusals.specs.Call.{Call}
-use Rattle.rows.specs.declared.Wrote.{Wrote}
+use Rattle.rows.specs.Answers.{Wrote}
 
 -- no line is longer
 abbrev pub line_most : ℕ

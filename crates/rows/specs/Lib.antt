@@ -1,4 +1,6 @@
+pub mod Answers
 pub mod Ascii
 pub mod Row
 pub mod Appended
 pub mod Calls
+pub mod Told

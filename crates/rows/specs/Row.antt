@@ -1,11 +1,9 @@
 -- The lines that the program writes: fields parted by commas, each line ended by CR LF, as in RFC 4180 (SCOPE, Program).
-use Rattle.std.specs.Prelude.{ℕ, List, [], ◌∷◌, ◌++◌}
+use Rattle.std.specs.Prelude.{ℕ, Option, None, Some, List, [], ◌∷◌, ◌++◌}
 use Prim.Native.Char.{code}
 use Rattle.rows.specs.Ascii.{ascii}
 use Rattle.rows.specs.declared.Word.{Word}
 use Rattle.rows.specs.declared.Word.TheVariants.{Early, Live, Frozen, Undecided, Resting}
-use Rattle.rows.specs.declared.Scored.{Scored}
-use Rattle.rows.specs.declared.Scored.TheVariants.{First, By}
 use Rattle.decimals.specs.Decimal.{decimal}
 
 -- the byte that parts fields
@@ -27,9 +25,9 @@ unfoldable pub field_text : ℕ → List ℕ
 field_text n = decimal n ++ comma ∷ []
 
 -- the score against the frame before, which is empty for the first frame, and the comma behind it
-unfoldable pub score_text : Scored → List ℕ
-score_text First = comma ∷ []
-score_text (By score) = field_text score
+unfoldable pub score_text : Option ℕ → List ℕ
+score_text None = comma ∷ []
+score_text (Some score) = field_text score
 
 -- the last field, and the line's end (no run of the program says `resting`: watch, `never_resting`)
 unfoldable pub word_text : Word → List ℕ
@@ -40,9 +38,9 @@ word_text Undecided = ascii "undecided" ++ line_end
 word_text Resting = ascii "resting" ++ line_end
 
 -- frame number, score, kept, total, verdict
-unfoldable pub row_text : ℕ → Scored → ℕ → ℕ → Word → List ℕ
-row_text frame scored kept total word =
-    field_text frame ++ (score_text scored ++ (field_text kept ++ (field_text total ++ word_text word)))
+unfoldable pub row_text : ℕ → Option ℕ → ℕ → ℕ → Word → List ℕ
+row_text frame score kept total word =
+    field_text frame ++ (score_text score ++ (field_text kept ++ (field_text total ++ word_text word)))
 
 -- frame number, `refused ` with the number, three empty fields
 unfoldable pub refused_text : ℕ → ℕ → List ℕ

@@ -3,29 +3,22 @@
 
 #![tactic(auto)]
 
-ghost use Rattle.std.specs.Prelude.{◌≡◌};
-ghost use Rattle.refusals.specs.Numbers.{buffer_too_short};
+ghost use Rattle.std.specs.Prelude.{◌≡◌, ◌≤◌, IfOk};
 ghost use Rattle.refusals.specs.Call.{result_of, left_of};
 ghost use Rattle.rows.specs.Row.{row_text, refused_text, head_text};
-ghost use Rattle.rows.specs.Calls.{line_call};
+ghost use Rattle.rows.specs.Calls.{line_most, line_call};
+ghost use Rattle.rows.specs.Told.{as_wrote};
 
-use refusals::BUFFER_TOO_SHORT;
+use put::Line;
+use refusals::Refusal;
 
 mod put;
 
 // No line is longer: a buffer of so many bytes takes any of them.
 pub const LINE_MOST: usize = 96;
 
-// The bytes that a line took, or a refusal with 0 bytes.
-#[repr(C)]
-#[derive(Clone, Copy)]
-pub struct Wrote {
-    pub refusal: u8,
-    pub length: usize,
-}
-
 // What a row says of the page: a verdict, or that it is too early for one.
-#[derive(Clone, Copy)]
+#[derive(Clone, Copy, Debug, PartialEq, Eq)]
 pub enum Word {
     Early,
     Live,
@@ -34,57 +27,56 @@ pub enum Word {
     Resting,
 }
 
-// The score against the frame before; the first frame has none.
-#[derive(Clone, Copy)]
-pub enum Scored {
-    First,
-    By(u64),
-}
-
 // The first line: the names of the fields.
-pub fn head(out: &mut [u8]) -> Wrote
-    ensures { (result ≡ result_of (line_call out.old head_text)) × (out.new ≡ left_of (line_call out.old head_text)) }
+pub fn head(out: &mut [u8]) -> Result<usize, Refusal>
+    ensures told { (as_wrote result ≡ result_of (line_call out.old head_text)) × (out.new ≡ left_of (line_call out.old head_text)) }
+    ensures room { IfOk result (λ length. length ≤ line_most) }
 {
     if out.len() < LINE_MOST {
-        return no_line();
+        return Err(Refusal::BufferTooShort);
     }
-    Wrote {
-        refusal: 0,
-        length: put::text(out, 0, b"frame,score,kept,total,verdict\r\n"),
-    }
+    let mut line = Line { out, at: 0 };
+    line.text(b"frame,score,kept,total,verdict\r\n");
+    Ok(line.at)
 }
 
-// The row of a frame.
-pub fn row(out: &mut [u8], frame: u64, scored: Scored, kept: u64, total: u64, word: Word) -> Wrote
-    ensures { (result ≡ result_of (line_call out.old (row_text frame scored kept total word))) × (out.new ≡ left_of (line_call out.old (row_text frame scored kept total word))) }
+// The row of a frame; the first frame has no score.
+pub fn row(
+    out: &mut [u8],
+    frame: u64,
+    score: Option<u64>,
+    kept: u64,
+    total: u64,
+    word: Word,
+) -> Result<usize, Refusal>
+    ensures told { (as_wrote result ≡ result_of (line_call out.old (row_text frame score kept total word))) × (out.new ≡ left_of (line_call out.old (row_text frame score kept total word))) }
+    ensures room { IfOk result (λ length. length ≤ line_most) }
 {
     if out.len() < LINE_MOST {
-        return no_line();
+        return Err(Refusal::BufferTooShort);
     }
-    Wrote {
-        refusal: 0,
-        length: put::row(out, frame, scored, kept, total, word),
-    }
+    let mut line = Line { out, at: 0 };
+    line.field(frame);
+    line.score(score);
+    line.field(kept);
+    line.field(total);
+    line.word(word);
+    Ok(line.at)
 }
 
-// The row of a frame that was refused.
-pub fn refused(out: &mut [u8], frame: u64, refusal: u8) -> Wrote
-    ensures { (result ≡ result_of (line_call out.old (refused_text frame refusal))) × (out.new ≡ left_of (line_call out.old (refused_text frame refusal))) }
+// The row of a frame that was refused, with the number of the refusal.
+// A number: the row is promised for every byte, and not for those alone that are a refusal's.
+pub fn refused(out: &mut [u8], frame: u64, refusal: u8) -> Result<usize, Refusal>
+    ensures told { (as_wrote result ≡ result_of (line_call out.old (refused_text frame refusal))) × (out.new ≡ left_of (line_call out.old (refused_text frame refusal))) }
+    ensures room { IfOk result (λ length. length ≤ line_most) }
 {
     if out.len() < LINE_MOST {
-        return no_line();
+        return Err(Refusal::BufferTooShort);
     }
-    Wrote {
-        refusal: 0,
-        length: put::refused(out, frame, put::wide(refusal)),
-    }
-}
-
-fn no_line() -> Wrote
-    ensures { result ≡ record { refusal = buffer_too_short; length = 0 } }
-{
-    Wrote {
-        refusal: BUFFER_TOO_SHORT,
-        length: 0,
-    }
+    let mut line = Line { out, at: 0 };
+    line.field(frame);
+    line.text(b"refused ");
+    line.number(u64::from(refusal));
+    line.text(b",,,\r\n");
+    Ok(line.at)
 }

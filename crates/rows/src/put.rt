@@ -1,48 +1,89 @@
-// Writes texts into a lent buffer, one after the other: each function is given a place and gives the place behind its text.
+// The line that is being written: texts go into a lent buffer one behind the other.
 ghost use Rattle.std.specs.Prelude.{◌∷◌, [], ◌≡◌, ◌+◌, ◌≤◌, ◌<◌, length};
-ghost use Rattle.rows.specs.Calls.{line_most};
 ghost use Rattle.decimals.specs.Decimal.{digit_byte, decimal};
-ghost use Rattle.rows.specs.Row.{field_text, score_text, word_text, row_text, refused_text};
+ghost use Rattle.rows.specs.Row.{field_text, score_text, word_text};
 ghost use Rattle.rows.specs.Appended.{Appended};
 
-use crate::{Scored, Word};
+use crate::Word;
 
-pub(crate) fn byte(out: &mut [u8], at: usize, b: u8) -> usize
-    requires { at < length out.old }
-    ensures { Appended out.old at (b ∷ []) out.new result }
-{
-    out[at] = b;
-    at + 1
+// The buffer, and the place behind what is written of the line.
+#[derive(Drop)]
+pub(crate) struct Line<'a> {
+    pub(crate) out: &'a mut [u8],
+    pub(crate) at: usize,
 }
 
-pub(crate) fn text(out: &mut [u8], at: usize, s: &[u8]) -> usize
-    requires { at + length s.now ≤ length out.old }
-    ensures { Appended out.old at s.now out.new result }
-{
-    let mut i = 0;
-    while i < s.len() {
-        out[at + i] = s[i];
-        i += 1;
+impl Line<'_> {
+    fn byte(&mut self, b: u8)
+        requires { self.old.at < length self.old.out.now }
+        ensures { Appended self.old (b ∷ []) self.new }
+    {
+        self.out[self.at] = b;
+        self.at += 1;
     }
-    at + i
-}
 
-// The digits of a number: those of its tenth, and then its last one.
-pub(crate) fn number(out: &mut [u8], at: usize, n: u64) -> usize
-    requires { at + length (decimal n) ≤ length out.old }
-    ensures { Appended out.old at (decimal n) out.new result }
-{
-    if n < 10 {
-        return byte(out, at, digit(n));
+    pub(crate) fn text(&mut self, s: &[u8])
+        requires { self.old.at + length s.now ≤ length self.old.out.now }
+        ensures { Appended self.old s.now self.new }
+    {
+        let end = self.at + s.len();
+        self.out[self.at..end].copy_from_slice(s);
+        self.at = end;
     }
-    let next = number(out, at, n / 10);
-    byte(out, next, digit(n % 10))
-}
 
-pub(crate) fn wide(n: u8) -> u64
-    ensures { result ≡ n }
-{
-    n as u64
+    // The digits of a number: those of its tenth, and then its last one.
+    // By hand: of `write!` nothing says when it is an error, while a line that has room is never refused; and these crates stand on std
+    // alone.
+    pub(crate) fn number(&mut self, n: u64)
+        requires { self.old.at + length (decimal n) ≤ length self.old.out.now }
+        ensures { Appended self.old (decimal n) self.new }
+    {
+        if n < 10 {
+            self.byte(digit(n));
+        } else {
+            self.number(n / 10);
+            self.byte(digit(n % 10));
+        }
+    }
+
+    // A number and the comma behind it.
+    pub(crate) fn field(&mut self, n: u64)
+        requires { self.old.at + 21 ≤ length self.old.out.now }
+        ensures text { Appended self.old (field_text n) self.new }
+        ensures room { self.new.at ≤ self.old.at + 21 }
+    {
+        self.number(n);
+        self.byte(b',');
+    }
+
+    // The score and the comma behind it.
+    #[tactic(auto, unfolding(crate::specs::Row::score_text))]
+    pub(crate) fn score(&mut self, score: Option<u64>)
+        requires { self.old.at + 21 ≤ length self.old.out.now }
+        ensures text { Appended self.old (score_text score) self.new }
+        ensures room { self.new.at ≤ self.old.at + 21 }
+    {
+        match score {
+            None => self.byte(b','),
+            Some(n) => self.field(n),
+        }
+    }
+
+    // The word of the last field, and the line's end.
+    #[tactic(auto, unfolding(crate::specs::Row::word_text))]
+    pub(crate) fn word(&mut self, w: Word)
+        requires { self.old.at + 11 ≤ length self.old.out.now }
+        ensures text { Appended self.old (word_text w) self.new }
+        ensures room { self.new.at ≤ self.old.at + 11 }
+    {
+        match w {
+            Word::Early => self.text(b"early\r\n"),
+            Word::Live => self.text(b"live\r\n"),
+            Word::Frozen => self.text(b"frozen\r\n"),
+            Word::Undecided => self.text(b"undecided\r\n"),
+            Word::Resting => self.text(b"resting\r\n"),
+        }
+    }
 }
 
 // The byte of a digit.
@@ -50,71 +91,5 @@ fn digit(d: u64) -> u8
     requires { d < 10 }
     ensures { result ≡ digit_byte d }
 {
-    48 + d as u8
-}
-
-// A number and the comma behind it.
-pub(crate) fn field(out: &mut [u8], at: usize, n: u64) -> usize
-    requires { at + 21 ≤ length out.old }
-    ensures text { Appended out.old at (field_text n) out.new result }
-    ensures room { result ≤ at + 21 }
-{
-    let next = number(out, at, n);
-    byte(out, next, 44)
-}
-
-// The score and the comma behind it.
-pub(crate) fn score(out: &mut [u8], at: usize, scored: Scored) -> usize
-    requires { at + 21 ≤ length out.old }
-    ensures text { Appended out.old at (score_text scored) out.new result }
-    ensures room { result ≤ at + 21 }
-{
-    match scored {
-        Scored::First => return byte(out, at, 44),
-        Scored::By(n) => return field(out, at, n),
-    }
-}
-
-// The word of the last field, and the line's end.
-pub(crate) fn word(out: &mut [u8], at: usize, w: Word) -> usize
-    requires { at + 11 ≤ length out.old }
-    ensures { Appended out.old at (word_text w) out.new result }
-{
-    match w {
-        Word::Early => return text(out, at, b"early\r\n"),
-        Word::Live => return text(out, at, b"live\r\n"),
-        Word::Frozen => return text(out, at, b"frozen\r\n"),
-        Word::Undecided => return text(out, at, b"undecided\r\n"),
-        Word::Resting => return text(out, at, b"resting\r\n"),
-    }
-}
-
-// A whole row.
-pub(crate) fn row(
-    out: &mut [u8],
-    frame: u64,
-    scored: Scored,
-    kept: u64,
-    total: u64,
-    w: Word,
-) -> usize
-    requires { line_most ≤ length out.old }
-    ensures { Appended out.old 0 (row_text frame scored kept total w) out.new result }
-{
-    let a = field(out, 0, frame);
-    let b = score(out, a, scored);
-    let c = field(out, b, kept);
-    let d = field(out, c, total);
-    word(out, d, w)
-}
-
-// A row for a refusal.
-pub(crate) fn refused(out: &mut [u8], frame: u64, refusal: u64) -> usize
-    requires { line_most ≤ length out.old }
-    ensures { Appended out.old 0 (refused_text frame refusal) out.new result }
-{
-    let a = field(out, 0, frame);
-    let b = text(out, a, b"refused ");
-    let c = number(out, b, refusal);
-    text(out, c, b",,,\r\n")
+    b'0' + d as u8
 }

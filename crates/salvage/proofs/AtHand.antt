@@ -11,7 +11,7 @@ use Rattle.book.specs.declared.shape.Shape.{Shape}
 use Rattle.book.specs.Record.{block_of}
 use Rattle.book.proofs.Promises.{block_high, slots_top}
 use Rattle.sums.specs.Row.{entries_for, entries_of}
-use Rattle.salvage.specs.Steps.{Ready}
+use Rattle.book.specs.Ready.{Ready}
 use Rattle.salvage.proofs.NewestSlots.{ring_whole, z_fits}
 
 module _ {book : Book} {shape : Shape} {lent : ℕ} (at_hand : Ready book shape lent) where

@@ -8,29 +8,30 @@ use contract.Lifetimes.{Lfts}
 use Rattle.refusals.specs.Demand1.{Tells, Promised}
 use Rattle.refusals.proofs.Calls.{promised, tells}
 use Rattle.book.specs.declared.Book.{Book}
-use Rattle.salvage.specs.declared.Salvaged.{Salvaged}
+use Rattle.salvage.specs.declared.told.Salvaged.{Salvaged}
+use Rattle.salvage.specs.Told.{as_salvaged}
 use Rattle.salvage.specs.Calls.{salvage_call, salvage_row_call}
 use Rattle.salvage.proofs.salvage.Reads as salvage-reads
 use Rattle.salvage.proofs.salvage_row.Reads as salvage-row-reads
 
 -- what each tells of its refusal
 module _ (book : Book) (ring numbers : List ℕ) where
-  salvage_tells : Tells (λ (r : Salvaged). r.refusal) (salvage_call book ring numbers)
+  pub salvage_tells : Tells (λ (r : Salvaged). r.refusal) (salvage_call book ring numbers)
   unfolding salvage_call
   salvage_tells = tells tt refl (λ number. refl)
 
-  salvage_row_tells : (row : List ℕ) → Tells (λ (r : Salvaged). r.refusal) (salvage_row_call book ring numbers row)
+  pub salvage_row_tells : (row : List ℕ) → Tells (λ (r : Salvaged). r.refusal) (salvage_row_call book ring numbers row)
   unfolding salvage_row_call
   salvage_row_tells row = tells tt refl (λ number. refl)
 
 -- In `a` stand the arguments in their order, the ring and the rows among them, in `e` the same as the call returns.
-pub salvage_promised : (κs : Lfts 2) → Promised (salvage-reads.Post κs) (λ r. r)
+pub salvage_promised : (κs : Lfts 2) → Promised (salvage-reads.Post κs) (λ a r. as_salvaged a.0 r)
     (λ a e. record { ring = e.1.0.now; numbers = e.1.1.0.now })
     (λ a. salvage_call a.0 a.1.0.now a.1.1.0.now) (λ (r : Salvaged). r.refusal)
 salvage_promised κs =
     promised _ _ _ _ (λ a r e p. (p.0, λ i. record { ring = p.1 i; numbers = p.2 i })) _ (λ a. salvage_tells _ _ _)
 
-pub salvage_row_promised : (κs : Lfts 3) → Promised (salvage-row-reads.Post κs) (λ r. r)
+pub salvage_row_promised : (κs : Lfts 3) → Promised (salvage-row-reads.Post κs) (λ a r. as_salvaged a.0 r)
     (λ a e. record { ring = e.1.0.now; numbers = e.1.1.0.now; row = e.1.1.1.0.now })
     (λ a. salvage_row_call a.0 a.1.0.now a.1.1.0.now a.1.1.1.0.now) (λ (r : Salvaged). r.refusal)
 salvage_row_promised κs =

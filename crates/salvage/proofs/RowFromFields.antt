@@ -1,17 +1,18 @@
 -- The rebuilt row: its entries, that a row rebuilt from the present fields is kept, wherever head stands, and what stays of it.
 -- Assumes nothing.
-use Prim.Native.Nat.{ℕ, zero, suc, ◌+◌, ◌*◌, ◌≤◌, ◌<◌, min}
+use Prim.Native.Nat.{ℕ, zero, suc, ◌+◌, ◌-◌, ◌*◌, ◌≤◌, ◌<◌, min}
 use native.Mathlib.Omega.{arith}
 use mathlib.Core.List.{List, [], ◌∷◌, ◌++◌}
 use mathlib.Core.Logic.{◌⊎◌, inl, inr}
 use mathlib.Core.Path.{◌≡◌, refl, sym, ap, ap₂, ◌∙◌}
-use lib.ListN.{length, get_or, set, drop, length-append, length-drop, get_or-append}
+use lib.ListN.{length, get_or, set, drop, length-append, length-drop, get_or-append, drop_of_length-le}
+use Rattle.std.proofs.Common.{append-nil}
 use lib.Seq.{drop-cons, append_snoc, set_at, drop_at, get_or_at}
 use Rattle.book.proofs.Promises.{le_or_lt}
-use Rattle.sums.specs.Row.{group, entries_for, entry_at, group_end, sum_to, RestStays}
+use Rattle.sums.specs.Row.{group, entries_for, entry_at, group_end, sum_from, sum_to, RestStays}
 use Rattle.sums.specs.Rule.{stored_at}
 use Rattle.sums.specs.RowKept.{End, Kept}
-use Rattle.sums.proofs.Promises.{kept_filled, stored_0, stored_entry, group_end_lem, from_none, to_same}
+use Rattle.sums.proofs.Promises.{kept_filled, stored_0, stored_entry, group_end_lem, from_none, between, to_same}
 use Rattle.salvage.specs.Rebuilt.{group_sums, rebuilt_row}
 
 -- THE END OF GROUP k: 32 slots behind its first, or the last slot's
@@ -65,6 +66,52 @@ module _ (slots : ℕ) (held : ℕ → ℕ) where
           get_or-append (group_sums slots held groups) (sum_to held (group_end slots (groups * group)) ∷ []) 0 k
           (omega (arith, sums_length groups))
           ∙ among earlier
+
+-- GROUP BY GROUP, as the code goes: where the groups end that are summed, the sum of the fields before that end, and the entries
+pub record Summed (slots : ℕ) (held : ℕ → ℕ) (lent entries : List ℕ) (groups sum from : ℕ) : Type 0 where
+  pub ends : from ≡ min slots (groups * group)
+  pub sum_is : sum ≡ sum_to held from
+  pub entries_are : entries ≡ group_sums slots held groups ++ drop groups lent
+
+module _ (slots : ℕ) (held : ℕ → ℕ) (lent : List ℕ) where
+  pub summed_none : Summed slots held lent lent 0 0 0
+  summed_none = record { ends = omega arith; sum_is = sym (from_none held 0); entries_are = sym (sums_none slots held lent) }
+
+module _ {slots : ℕ} {held : ℕ → ℕ} {lent entries : List ℕ} {groups sum from : ℕ} (s : Summed slots held lent entries groups sum from) where
+  -- one more
+  module _ (used : groups < entries_for slots) (has_entry : groups < length lent) {end : ℕ} (end_is : end ≡ group_end slots from) where
+    here : from ≡ groups * group
+    here = omega (arith, s.ends)
+
+    pub group_ahead : (from < end) × (end ≤ slots)
+    group_ahead =
+        let lies = group_end_lem slots from (omega (arith, here)) in
+        (omega (arith, end_is, lies.behind), omega (arith, end_is, lies.within))
+
+    pub with_group : {own : ℕ} → own ≡ sum_from held from (end - from) → sum + own ≡ sum_to held end
+    with_group {own} own_is =
+        let whole = between held from end (omega (arith, group_ahead.0)) in
+        omega (arith, s.sum_is, own_is, whole)
+
+    pub summed_more : {own : ℕ} → own ≡ sum_from held from (end - from)
+        → Summed slots held lent (set entries groups (sum + own)) (groups + 1) (sum + own) end
+    summed_more own_is =
+        let next : groups + 1 ≡ suc groups = omega arith in
+        let its_end = ap (group_end slots) here in
+        record {
+          ends = end_is ∙ its_end ∙ end_of_group slots groups (omega arith);
+          sum_is = with_group own_is;
+          entries_are =
+              ap₂ (λ (r : List ℕ) (v : ℕ). set r groups v) s.entries_are (with_group own_is ∙ ap (sum_to held) (end_is ∙ its_end))
+              ∙ sums_more slots held lent groups has_entry
+              ∙ ap (λ (k : ℕ). group_sums slots held k ++ drop k lent) (sym next);
+        }
+
+  -- all of them
+  pub summed_all : groups ≡ entries_for slots → length lent ≤ groups → entries ≡ group_sums slots held (entries_for slots)
+  summed_all all past =
+      s.entries_are ∙ ap (λ (rest : List ℕ). group_sums slots held groups ++ rest) (drop_of_length-le lent past)
+      ∙ append-nil (group_sums slots held groups) ∙ ap (group_sums slots held) all
 
 module _ (slots : ℕ) (held : ℕ → ℕ) (row : List ℕ) (room : entries_for slots ≤ length row) where
   -- each used entry is the sum of the fields from slot 0 to its group's end

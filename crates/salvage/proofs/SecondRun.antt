@@ -9,7 +9,7 @@ use Rattle.book.specs.declared.Book.{Book}
 use Rattle.book.specs.Record.{slots_of, held_in}
 use Rattle.book.specs.Sound.{Usable}
 use Rattle.sums.specs.Row.{entries_of}
-use Rattle.salvage.specs.declared.Salvaged.{Salvaged}
+use Rattle.salvage.specs.declared.told.Salvaged.{Salvaged}
 use Rattle.salvage.specs.Altered.{altered}
 use Rattle.salvage.specs.Salvaged.{capped, tail_cleared, salvaged_ring, listed, salvaged_record}
 use Rattle.salvage.specs.Mended.{NoneAltered}

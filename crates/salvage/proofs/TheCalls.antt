@@ -4,9 +4,9 @@
 use Prim.Native.Nat.{ℕ, ◌≤◌, ◌<◌}
 use native.Mathlib.Nat.{le_trans}
 use native.Mathlib.Omega.{arith}
-use mathlib.Core.List.{List, [], ◌∷◌, ◌++◌}
+use mathlib.Core.List.{List, [], ◌∷◌}
 use mathlib.Core.Path.{◌≡◌, refl, sym, ap, ◌∙◌}
-use borrow.Author.Tests.{le-ltb, lt-ltb}
+use borrow.Author.Tests.{lt-ltb}
 use lib.ListN.{length}
 use Rattle.refusals.specs.Numbers.{numbers_too_short}
 use Rattle.refusals.specs.First.{first_of}
@@ -15,72 +15,38 @@ use Rattle.refusals.proofs.Laws.{first_stops}
 use Rattle.refusals.proofs.Calls.{result_refused, left_refused}
 use Rattle.ring.specs.Slot.{field}
 use Rattle.book.specs.declared.Book.{Book}
-use Rattle.book.specs.declared.Figure.{Figure}
 use Rattle.book.specs.declared.shape.Shape.{Shape}
-use Rattle.book.specs.Shape.{shape_call}
 use Rattle.book.specs.Record.{block_of, slots_of, held_in, record_with}
-use Rattle.book.specs.Sound.{Usable}
-use Rattle.book.specs.Calls.{book_faults, window_fault, total_call}
-use Rattle.book.proofs.Promises.{total_refusal, total_number, total_known, slots_top}
+use Rattle.book.specs.Calls.{book_faults}
+use Rattle.book.proofs.Promises.{slots_top}
 use Rattle.sums.specs.Row.{entries_for, entries_of}
 use Rattle.sums.specs.Calls.{row_fault}
-use Rattle.sums.proofs.Promises.{shape_of_book}
-use Rattle.salvage.specs.declared.Salvaged.{Salvaged}
-use Rattle.salvage.specs.declared.walk.Found.{Found}
+use Rattle.salvage.specs.declared.told.Salvaged.{Salvaged}
 use Rattle.salvage.specs.Altered.{altered, how_new}
 use Rattle.salvage.specs.Salvaged.{capped, tail_cleared, salvaged_ring, listed, kept_for, salvaged_record}
 use Rattle.salvage.specs.Rebuilt.{rebuilt_row}
 use Rattle.salvage.specs.Calls.{RingAndNumbers, RingNumbersAndRow, numbers_fault, salvage_call, salvage_row_call}
 use Rattle.salvage.specs.After.{book_after, ring_after, book_after_row, both_after}
-use Rattle.salvage.specs.Steps.{Ready}
+use Rattle.book.specs.Ready.{Ready}
 use Rattle.salvage.proofs.AlteredSlots.{how_new_high}
 use Rattle.salvage.proofs.AtHand.{ready_entries, block_is, ready_block}
 use Rattle.salvage.proofs.EachField.{salvaged_is}
-use Rattle.salvage.proofs.WhenTaken.{salvage_faults, usable_then_21, salvage_refusal, salvage_known, salvage_gives}
+use Rattle.salvage.proofs.WhenTaken.{salvage_faults, usable_then_21, salvage_refusal, salvage_gives}
 use Rattle.salvage.proofs.WhenTaken.{salvage_row_refusal, salvage_row_taken, salvage_row_gives}
 
--- ASKING, where so many entries are lent for slot numbers: 8 and 4 are those of a total of no items
-module _ (book : Book) (ring : List ℕ) (entries : ℕ) {figure : Figure} (told : figure ≡ result_of (total_call book ring 0)) where
-  abbrev first : ℕ
-  first = first_of (salvage_faults book (length ring) entries)
+-- ASKING: 8 and 4 come first, then 21
+module _ (book : Book) (lent entries : ℕ) where
+  pub book_first : {number : ℕ} → number ≡ first_of (book_faults book lent) → (number ≡ 0 → ⊥) → number ≡ first_of (salvage_faults book lent entries)
+  book_first {number} found some = first_stops (book_faults book lent) (numbers_fault book entries ∷ []) number found some
 
-  -- it tells the number that it is refused with
-  number_is : figure.refusal ≡ refusal_of (total_call book ring 0)
-  number_is = ap (λ (f : Figure). f.refusal) told ∙ total_number book ring 0
-
-  -- what it is refused with comes first
-  pub total_first : (figure.refusal ≡ 0 → ⊥) → figure.refusal ≡ first
-  total_first some =
-      first_stops (book_faults book (length ring) ++ window_fault book 0 ∷ []) (numbers_fault book entries ∷ []) figure.refusal
-      (number_is ∙ total_refusal book ring 0) some
-      ∙ rw (le-ltb book.kept 0 (omega arith))
-
-  module _ (none : figure.refusal ≡ 0) {shape : Shape}
-      (derived : shape ≡ (result_of (shape_call book.bound book.length book.tolerance)).shape) where
-    -- once 8 and 4 are passed it is a book with its ring
-    usable : Usable book (length ring)
-    usable = (total_known book ring 0 (sym number_is ∙ none)).0
-
-    -- whose slots were counted
-    slots_are : shape.slots ≡ slots_of book
-    slots_are = ap (λ (s : Shape). s.slots) (shape_of_book book derived usable.sound)
-
-    -- 21, and nothing
-    pub short_numbers : entries < shape.slots → numbers_too_short ≡ first
-    short_numbers few = sym (usable_then_21 book (length ring) entries usable ∙ rw (lt-ltb entries (slots_of book) (rw slots_are at few)))
-
-    pub nothing_refused : shape.slots ≤ entries → 0 ≡ first
-    nothing_refused enough =
-        sym (usable_then_21 book (length ring) entries usable ∙ rw (le-ltb entries (slots_of book) (rw slots_are at enough)))
+  pub short_numbers : {shape : Shape} → Ready book shape lent → entries < shape.slots → numbers_too_short ≡ first_of (salvage_faults book lent entries)
+  short_numbers ready few =
+      sym
+      (usable_then_21 book lent entries ready.usable
+      ∙ rw (lt-ltb entries (slots_of book) (rw (ap (λ (s : Shape). s.slots) ready.shape_is) at few)))
 
 -- A REFUSAL hands the record back as it came, with 0 slots, and leaves what was lent
 module _ (book : Book) (ring numbers : List ℕ) where
-  -- the refusal that was found, where the entries were counted
-  pub asked_first : {refusal entries : ℕ} → refusal ≡ first_of (salvage_faults book (length ring) entries) → entries ≡ length numbers
-      → refusal ≡ refusal_of (salvage_call book ring numbers)
-  asked_first found counted =
-      found ∙ ap (λ (n : ℕ). first_of (salvage_faults book (length ring) n)) counted ∙ sym (salvage_refusal book ring numbers)
-
   -- all comes back with it
   pub handed_back : {refusal : ℕ} {done : Salvaged} → refusal ≡ refusal_of (salvage_call book ring numbers) → (refusal ≡ 0 → ⊥)
       → done ≡ record { refusal = refusal; count = 0; book = book }
@@ -132,36 +98,21 @@ module _ (book : Book) (ring numbers : List ℕ) where
         let back = handed_back_row refl some refl in
         (ap (λ (r : Salvaged). r.book) (sym back.0), λ i. record { ring = sym back.1 i; row = sym back.3 i })
 
--- NOTHING REFUSED: a book with its ring, the numbers that were derived of its L, n and D, and room for every slot number
-pub all_at_hand : (book : Book) (ring numbers : List ℕ) {shape : Shape}
-    → shape ≡ (result_of (shape_call book.bound book.length book.tolerance)).shape → refusal_of (salvage_call book ring numbers) ≡ 0
-    → Ready book shape (length ring) × (slots_of book ≤ length numbers)
-all_at_hand book ring numbers derived taken =
-    let known = salvage_known book ring numbers taken in
-    (record { usable = known.0; shape_is = shape_of_book book derived known.0.sound }, known.1)
+-- ONCE THE RING WAS GONE THROUGH: what kept is reckoned of is small, and the block is the book's
+pub found_small : (book : Book) (ring : List ℕ) {shape : Shape} {u : ℕ} → u ≡ how_new book ring → Ready book shape (length ring)
+    → (u ≤ 4096) × (shape.block ≤ 4096) × (book.phase ≤ 4096) × (shape.block ≡ block_of book)
+found_small book ring found_is at_hand = (
+  rw found_is (le_trans (how_new_high book ring) (slots_top book at_hand.usable.sound)),
+  ready_block at_hand,
+  omega (arith, at_hand.usable.sound.phase_high, rw at_hand.shape_is at (ready_block at_hand)),
+  block_is at_hand,
+)
 
--- ONCE THE RING WAS GONE THROUGH
-module _ (book : Book) (ring : List ℕ) {found : Found}
-    (found_is : found ≡ record { count = length (altered book ring); nth = how_new book ring }) where
-  -- what kept is reckoned of is small, and the block is the book's
-  pub found_small : {shape : Shape} → Ready book shape (length ring)
-      → (found.nth ≤ 4096) × (shape.block ≤ 4096) × (book.phase ≤ 4096) × (shape.block ≡ block_of book)
-  found_small at_hand = (
-    rw found_is (le_trans (how_new_high book ring) (slots_top book at_hand.usable.sound)),
-    ready_block at_hand,
-    omega (arith, at_hand.usable.sound.phase_high, rw at_hand.shape_is at (ready_block at_hand)),
-    block_is at_hand,
-  )
-
-  -- the answer is made of what was found
-  pub answer_is : {kept : ℕ} → kept ≡ kept_for book found.nth
-      → ◌≡◌ {A = Salvaged} (record { refusal = 0; count = found.count; book = record_with book book.carry book.phase kept book.head })
-      (record { refusal = 0; count = length (altered book ring); book = salvaged_record book ring })
-  answer_is kept_is =
-      let so_kept = kept_is ∙ ap (λ (f : Found). kept_for book f.nth) found_is in
-      let whole =
-      ap (λ (kept : ℕ). record_with book book.carry book.phase kept book.head) so_kept ∙ sym (salvaged_is book ring) in
-      λ i. record { refusal = 0; count = (found_is i).count; book = whole i }
+-- the record is made of what was found
+pub record_is : (book : Book) (ring : List ℕ) {u kept : ℕ} → u ≡ how_new book ring → kept ≡ kept_for book u
+    → record_with book book.carry book.phase kept book.head ≡ salvaged_record book ring
+record_is book ring found_is kept_is =
+    ap (λ (kept : ℕ). record_with book book.carry book.phase kept book.head) (kept_is ∙ ap (kept_for book) found_is) ∙ sym (salvaged_is book ring)
 
 -- and the bits after the last slot were cleared
 pub ring_is : (book : Book) (ring : List ℕ) {gone left : List ℕ} → gone ≡ capped book ring (altered book ring) → left ≡ tail_cleared book gone

@@ -6,14 +6,13 @@ use mathlib.Core.Bool.{Bool, true, false, cond}
 use mathlib.Core.List.{List, []}
 use mathlib.Core.Path.{◌≡◌, refl, sym, ap, ◌∙◌}
 use lib.Dec.{ltb}
-use lib.ListN.{length, set, length-set}
+use lib.ListN.{length, set}
 use Rattle.ring.specs.Newest.{newest}
 use Rattle.ring.specs.Slot.{field, written}
 use Rattle.book.specs.declared.Book.{Book}
 use Rattle.book.specs.declared.shape.Shape.{Shape}
 use Rattle.book.specs.Record.{shape_for, slots_of, largest_of, width_of}
 use Rattle.book.specs.Sound.{Usable}
-use Rattle.salvage.specs.declared.walk.Found.{Found}
 use Rattle.salvage.specs.Altered.{newest_slot, too_large, altered, how_new}
 use Rattle.salvage.specs.Salvaged.{capped, listed}
 use Rattle.salvage.specs.Steps.{Walk, step, walked, set_out}
@@ -28,10 +27,6 @@ walked_more book (suc j) walk some =
     let one_less : j ≡ suc j - 1 = omega arith in
     ap (λ (k : ℕ). walked book k (step book (suc j) walk)) one_less
 
--- what the code tells of a walk
-abbrev pub found : ℕ → ℕ → Found
-found count last = record { count = count; nth = last }
-
 -- what comes of the whole walk
 abbrev pub all_walked : Book → List ℕ → List ℕ → Walk
 all_walked book ring numbers =
@@ -41,8 +36,6 @@ all_walked book ring numbers =
 pub record Going (book : Book) (ring₀ numbers₀ : List ℕ) (walk : Walk) (j : ℕ) : Type 0 where
   pub within : j ≤ slots_of book
   pub few : walk.count + j ≤ slots_of book
-  pub ring_long : length walk.ring ≡ length ring₀
-  pub numbers_long : length walk.numbers ≡ length numbers₀
   pub left : walked book j walk ≡ all_walked book ring₀ numbers₀
 
 module _ (book : Book) (ring numbers : List ℕ) (usable : Usable book (length ring)) where
@@ -52,8 +45,6 @@ module _ (book : Book) (ring numbers : List ℕ) (usable : Usable book (length r
       record {
         within = omega arith;
         few = omega arith;
-        ring_long = refl;
-        numbers_long = refl;
         left = walked_all book ring usable numbers room;
       }
 
@@ -70,8 +61,6 @@ module _ (book : Book) (ring numbers : List ℕ) (usable : Usable book (length r
       record {
         within = omega arith;
         few = omega arith;
-        ring_long = refl;
-        numbers_long = refl;
         left = nothing_walked (altered book ring) none.0 (how_new book ring) none.1;
       }
 
@@ -81,14 +70,11 @@ module _ {book : Book} {ring₀ numbers₀ ring numbers : List ℕ} {count nth�
   here = walk_of ring numbers count nth₁
 
   -- the next slot, once its step is known
-  going_by : 0 < j → (next : Walk) → step book j here ≡ next → next.count ≤ count + 1 → length next.ring ≡ length ring
-      → length next.numbers ≡ length numbers → Going book ring₀ numbers₀ next (j - 1)
-  going_by some next is few ring_same numbers_same =
+  going_by : 0 < j → (next : Walk) → step book j here ≡ next → next.count ≤ count + 1 → Going book ring₀ numbers₀ next (j - 1)
+  going_by some next is few =
       record {
         within = omega (arith, g.within);
         few = omega (arith, g.few, few, some);
-        ring_long = ring_same ∙ g.ring_long;
-        numbers_long = numbers_same ∙ g.numbers_long;
         left = ap (walked book (j - 1)) (sym is) ∙ sym (walked_more book j here some) ∙ g.left;
       }
 
@@ -104,37 +90,37 @@ module _ {book : Book} {ring₀ numbers₀ ring numbers : List ℕ} {count nth�
       above_is : above ≡ too_large book ring (newest_slot book j)
       above_is = λ i. ltb (Shape-is i).largest (field (Shape-is i).width ring (place_is i))
 
-      module _ {ring' : List ℕ} (ring_is : ring' ≡ cond above (written shape.width ring slot shape.largest) ring)
-          (ring_same : length ring' ≡ length ring) {numbers' : List ℕ} {count' nth' : ℕ} where
-        -- it is altered
-        pub going_alters : true ≡ above → numbers' ≡ set numbers count slot → count' ≡ count + 1 → nth' ≡ j
-            → Going book ring₀ numbers₀ (walk_of ring' numbers' count' nth') (j - 1)
-        going_alters large numbers-is count_is nth-is =
-            let written_is : ring' ≡ written (width_of book) ring (newest_slot book j) (largest_of book) =
-            ring_is ∙ ap (λ (t : Bool). cond t (written shape.width ring slot shape.largest) ring) (sym large)
-            ∙ (λ i. written (Shape-is i).width ring (place_is i) (Shape-is i).largest) in
-            let listed_is : numbers' ≡ set numbers count (newest_slot book j) = numbers-is ∙ ap (set numbers count) place_is in
-            going_by some (walk_of ring' numbers' count' nth')
-            (step_alters book j here (sym above_is ∙ sym large)
-            ∙ sym (λ i. walk_of (written_is i) (listed_is i) (count_is i) (nth-is i)))
-            (omega (arith, count_is)) ring_same (ap length numbers-is ∙ length-set numbers count slot)
+      module _ {ring' : List ℕ} (ring_is : ring' ≡ cond above (written shape.width ring slot shape.largest) ring) {numbers' : List ℕ} {count' nth' : ℕ}
+        where
+          -- it is altered
+          pub going_alters : true ≡ above → numbers' ≡ set numbers count slot → count' ≡ count + 1 → nth' ≡ j
+              → Going book ring₀ numbers₀ (walk_of ring' numbers' count' nth') (j - 1)
+          going_alters large numbers-is count_is nth-is =
+              let written_is : ring' ≡ written (width_of book) ring (newest_slot book j) (largest_of book) =
+              ring_is ∙ ap (λ (t : Bool). cond t (written shape.width ring slot shape.largest) ring) (sym large)
+              ∙ (λ i. written (Shape-is i).width ring (place_is i) (Shape-is i).largest) in
+              let listed_is : numbers' ≡ set numbers count (newest_slot book j) = numbers-is ∙ ap (set numbers count) place_is in
+              going_by some (walk_of ring' numbers' count' nth')
+              (step_alters book j here (sym above_is ∙ sym large)
+              ∙ sym (λ i. walk_of (written_is i) (listed_is i) (count_is i) (nth-is i)))
+              (omega (arith, count_is))
 
-        -- it is left
-        pub going_leaves : false ≡ above → numbers' ≡ numbers → count' ≡ count → nth' ≡ nth₁
-            → Going book ring₀ numbers₀ (walk_of ring' numbers' count' nth') (j - 1)
-        going_leaves small numbers-is count_is nth-is =
-            let ring_stays : ring' ≡ ring =
-            ring_is ∙ ap (λ (t : Bool). cond t (written shape.width ring slot shape.largest) ring) (sym small) in
-            going_by some (walk_of ring' numbers' count' nth')
-            (step_leaves book j here (sym above_is ∙ sym small)
-            ∙ sym (λ i. walk_of (ring_stays i) (numbers-is i) (count_is i) (nth-is i)))
-            (omega (arith, count_is)) ring_same (ap length numbers-is)
+          -- it is left
+          pub going_leaves : false ≡ above → numbers' ≡ numbers → count' ≡ count → nth' ≡ nth₁
+              → Going book ring₀ numbers₀ (walk_of ring' numbers' count' nth') (j - 1)
+          going_leaves small numbers-is count_is nth-is =
+              let ring_stays : ring' ≡ ring =
+              ring_is ∙ ap (λ (t : Bool). cond t (written shape.width ring slot shape.largest) ring) (sym small) in
+              going_by some (walk_of ring' numbers' count' nth')
+              (step_leaves book j here (sym above_is ∙ sym small)
+              ∙ sym (λ i. walk_of (ring_stays i) (numbers-is i) (count_is i) (nth-is i)))
+              (omega (arith, count_is))
 
   -- no slot is left
   pub going_end : j ≡ 0
-      → (found count nth₁ ≡ found (length (altered book ring₀)) (how_new book ring₀))
+      → (count ≡ length (altered book ring₀)) × (nth₁ ≡ how_new book ring₀)
       × (ring ≡ capped book ring₀ (altered book ring₀)) × (numbers ≡ listed (altered book ring₀) numbers₀)
   unfolding walked
   going_end none =
       let same : here ≡ all_walked book ring₀ numbers₀ = sym (ap (λ (k : ℕ). walked book k here) none) ∙ g.left in
-      (ap (λ (w : Walk). found w.count w.nth) same, ap (λ (w : Walk). w.ring) same, ap (λ (w : Walk). w.numbers) same)
+      (ap (λ (w : Walk). w.count) same, ap (λ (w : Walk). w.nth) same, ap (λ (w : Walk). w.ring) same, ap (λ (w : Walk). w.numbers) same)

@@ -8,7 +8,7 @@ use Rattle.book.specs.Record.{slots_of, held_in}
 use Rattle.book.specs.Calls.{book_faults}
 use Rattle.sums.specs.Row.{entries_of}
 use Rattle.sums.specs.Calls.{row_fault}
-use Rattle.salvage.specs.declared.Salvaged.{Salvaged}
+use Rattle.salvage.specs.declared.told.Salvaged.{Salvaged}
 use Rattle.salvage.specs.Altered.{altered}
 use Rattle.salvage.specs.Salvaged.{salvaged_ring, listed, salvaged_record}
 use Rattle.salvage.specs.Rebuilt.{rebuilt_row}

@@ -5,3 +5,4 @@ pub mod Calls
 pub mod After
 pub mod Mended
 pub mod Steps
+pub mod Told

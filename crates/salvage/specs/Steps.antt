@@ -1,16 +1,14 @@
 -- The walk of the code. Only contracts of private functions and their proofs speak of this; no reader needs it.
-use Rattle.std.specs.Prelude.{ℕ, zero, suc, ◌+◌, cond, List, ◌≡◌, set}
+use Rattle.std.specs.Prelude.{ℕ, zero, suc, ◌+◌, cond, List, set, Option, Some, None}
 use Rattle.ring.specs.Slot.{written}
 use Rattle.book.specs.declared.Book.{Book}
-use Rattle.book.specs.declared.shape.Shape.{Shape}
-use Rattle.book.specs.Record.{shape_for, largest_of, width_of}
-use Rattle.book.specs.Sound.{Usable}
+use Rattle.book.specs.Record.{largest_of, width_of}
 use Rattle.salvage.specs.Altered.{newest_slot, too_large}
 
--- a book with its ring, and c, s, z, b and B at hand
-pub record Ready (book : Book) (shape : Shape) (lent : ℕ) : Type 0 where
-  pub usable : Usable book lent
-  pub shape_is : shape ≡ shape_for book
+-- u, where so many slots are newer than the u-th newest; 0 for none
+abbrev pub nth : Option ℕ → ℕ
+nth None = 0
+nth (Some newer) = suc newer
 
 -- what goes round: the ring, the row of slot numbers, how many are in it, and u where the last of them is the u-th newest slot
 pub record Walk : Type 0 where

@@ -6,59 +6,44 @@
 
 ghost use Rattle.std.specs.Prelude.{◌≡◌};
 ghost use Rattle.refusals.specs.Call.{result_of, left_of};
+ghost use Rattle.salvage.specs.Told.{as_salvaged};
 ghost use Rattle.salvage.specs.Calls.{salvage_call, salvage_row_call};
 
 use book::Book;
-use refusals::ROW_TOO_SHORT;
+use refusals::Refusal;
 
 mod groups;
 mod judge;
+pub mod told;
 mod walk;
 
-// A refusal number, 0 for none; how many slots were altered, 0 at a refusal; and the record to go on with.
-#[repr(C)]
+// How many slots were altered, and the record to go on with.
 #[derive(Clone, Copy)]
-pub struct Salvaged {
-    pub refusal: u8,
+pub struct Mended {
     pub count: u64,
     pub book: Book,
 }
 
 // Salvages a ring. The numbers of the altered slots go into `numbers`, from slot head round to the newest.
-pub fn salvage(book: Book, ring: &mut [u8], numbers: &mut [u32]) -> Salvaged
-    ensures { (result ≡ result_of (salvage_call book ring.old numbers.old)) × (ring.new ≡ (left_of (salvage_call book ring.old numbers.old)).ring) × (numbers.new ≡ (left_of (salvage_call book ring.old numbers.old)).numbers) }
+pub fn salvage(book: Book, ring: &mut [u8], numbers: &mut [u32]) -> Result<Mended, Refusal>
+    ensures { (as_salvaged book result ≡ result_of (salvage_call book ring.old numbers.old)) × (ring.new ≡ (left_of (salvage_call book ring.old numbers.old)).ring) × (numbers.new ≡ (left_of (salvage_call book ring.old numbers.old)).numbers) }
 {
-    let shape = book::shape::derive(book.bound, book.length, book.tolerance).shape;
-    let refusal = judge::salvage(book, shape, ring, judge::count(numbers.len()));
-    if refusal != 0 {
-        return refused(refusal, book);
-    }
-    walk::mend(book, shape, ring, numbers)
+    let shape = judge::ready(book, ring.len(), numbers.len())?;
+    Ok(walk::mend(book, shape, ring, numbers))
 }
 
 // Salvages a ring, and rebuilds its row of running sums.
-pub fn salvage_row(book: Book, ring: &mut [u8], numbers: &mut [u32], row: &mut [u32]) -> Salvaged
-    ensures { (result ≡ result_of (salvage_row_call book ring.old numbers.old row.old)) × (ring.new ≡ (left_of (salvage_row_call book ring.old numbers.old row.old)).ring) × (numbers.new ≡ (left_of (salvage_row_call book ring.old numbers.old row.old)).numbers) × (row.new ≡ (left_of (salvage_row_call book ring.old numbers.old row.old)).row) }
+pub fn salvage_row(
+    book: Book,
+    ring: &mut [u8],
+    numbers: &mut [u32],
+    row: &mut [u32],
+) -> Result<Mended, Refusal>
+    ensures { (as_salvaged book result ≡ result_of (salvage_row_call book ring.old numbers.old row.old)) × (ring.new ≡ (left_of (salvage_row_call book ring.old numbers.old row.old)).ring) × (numbers.new ≡ (left_of (salvage_row_call book ring.old numbers.old row.old)).numbers) × (row.new ≡ (left_of (salvage_row_call book ring.old numbers.old row.old)).row) }
 {
-    let shape = book::shape::derive(book.bound, book.length, book.tolerance).shape;
-    let refusal = judge::salvage(book, shape, ring, judge::count(numbers.len()));
-    if refusal != 0 {
-        return refused(refusal, book);
-    }
-    if judge::count(row.len()) < groups::entries(shape.slots) {
-        return refused(ROW_TOO_SHORT, book);
-    }
-    let done = walk::mend(book, shape, ring, numbers);
+    let shape = judge::ready(book, ring.len(), numbers.len())?;
+    sums::judge::room_for_row(shape, row.len())?;
+    let mended = walk::mend(book, shape, ring, numbers);
     groups::rebuild(shape, ring, row);
-    done
-}
-
-fn refused(refusal: u8, book: Book) -> Salvaged
-    ensures { result ≡ record { refusal = refusal; count = 0; book = book } }
-{
-    Salvaged {
-        refusal,
-        count: 0,
-        book,
-    }
+    Ok(mended)
 }

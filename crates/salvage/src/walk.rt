@@ -1,34 +1,23 @@
 // Going through the ring once, from slot head round to the newest: specs/Salvaged.antt.
 ghost use Rattle.std.specs.Prelude.{◌≡◌, cond, ◌≤◌, ◌<◌, ◌^◌, ltb, length};
 ghost use Rattle.ring.specs.Slot.{field, written};
-ghost use Rattle.ring.specs.Newest.{newest};
 ghost use Rattle.ring.specs.Lent.{Lent};
 ghost use Rattle.book.specs.Record.{block_of, slots_of};
 ghost use Rattle.salvage.specs.Altered.{altered, how_new};
 ghost use Rattle.salvage.specs.Salvaged.{capped, tail_cleared, salvaged_ring, listed, kept_for, salvaged_record};
-ghost use Rattle.salvage.specs.Steps.{Ready};
+ghost use Rattle.book.specs.Ready.{Ready};
+ghost use Rattle.salvage.specs.Steps.{nth};
 
-use crate::Salvaged;
+use crate::Mended;
 use book::Book;
 use book::shape::Shape;
+use sums::totals::oldest;
 
-// How many slots were altered; and u where the newest of them is the u-th newest slot, 0 for none.
+// How many slots were altered; and how many are newer than the newest of them, if there is one.
 #[derive(Clone, Copy)]
 pub(crate) struct Found {
-    pub(crate) count: u64,
-    pub(crate) nth: u64,
-}
-
-// The j-th newest slot, in one step.
-fn place(slots: u64, head: u64, j: u64) -> u64
-    requires { (head < slots) × (j ≤ slots) × (slots ≤ 4096) }
-    ensures { result ≡ newest slots head j }
-{
-    if j <= head {
-        head - j
-    } else {
-        head + slots - j
-    }
+    pub(crate) count: usize,
+    pub(crate) newer: Option<u64>,
 }
 
 // One slot, by the ring's own calls: a field above z becomes z. Tells whether it was.
@@ -39,35 +28,38 @@ fn cap(shape: Shape, ring: &mut [u8], slot: u64) -> bool
     let width = shape.width as usize;
     let slots = shape.slots as usize;
     let at = slot as usize;
-    if ring::read(width, slots, ring, at).value <= shape.largest {
+    if ring::read(width, slots, ring, at).unwrap() <= shape.largest {
         return false;
     }
-    ring::write(width, slots, ring, at, shape.largest);
+    ring::write(width, slots, ring, at, shape.largest).unwrap();
     true
 }
 
 // Every slot, each read once. Where every number that a slot can hold is at most z, there is nothing to look for.
 fn every_slot(book: Book, shape: Shape, ring: &mut [u8], numbers: &mut [u32]) -> Found
     requires { Ready book shape (length ring.old) × (slots_of book ≤ length numbers.old) }
-    ensures { (result ≡ record { count = length (altered book ring.old); nth = how_new book ring.old }) × (ring.new ≡ capped book ring.old (altered book ring.old)) × (numbers.new ≡ listed (altered book ring.old) numbers.old) }
+    ensures { (result.count ≡ length (altered book ring.old)) × (nth result.newer ≡ how_new book ring.old) × (ring.new ≡ capped book ring.old (altered book ring.old)) × (numbers.new ≡ listed (altered book ring.old) numbers.old) }
 {
-    let mut count = 0;
-    let mut nth = 0;
-    let mut j = if shape.largest + 1 == 1u64 << shape.width {
+    let looked_at = if shape.largest + 1 == 1u64 << shape.width {
         0
     } else {
         shape.slots
     };
-    while 0 < j {
-        let slot = place(shape.slots, book.head, j);
+    let mut found = Found {
+        count: 0,
+        newer: None,
+    };
+    for newer in (0..looked_at).rev() {
+        let slot = oldest(shape.slots, book.head, newer + 1);
         if cap(shape, ring, slot) {
-            numbers[count as usize] = slot as u32;
-            count += 1;
-            nth = j;
+            numbers[found.count] = slot as u32;
+            found = Found {
+                count: found.count + 1,
+                newer: Some(newer),
+            };
         }
-        j -= 1;
     }
-    Found { count, nth }
+    found
 }
 
 // The bits after the last slot, 0 to 7 of them, stand at the end of the ring's last byte.
@@ -81,36 +73,26 @@ fn clear_tail(book: Book, shape: Shape, ring: &mut [u8])
 }
 
 // The open block, and the blocks that are newer than the newest altered slot; but no more than was kept.
-fn kept(book: Book, block: u64, nth: u64) -> u64
-    requires { (nth ≤ 4096) × (block ≤ 4096) × (book.phase ≤ 4096) × (block ≡ block_of book) }
-    ensures { result ≡ kept_for book nth }
+fn kept(book: Book, block: u64, newer: Option<u64>) -> u64
+    requires { (nth newer ≤ 4096) × (block ≤ 4096) × (book.phase ≤ 4096) × (block ≡ block_of book) }
+    ensures { result ≡ kept_for book (nth newer) }
 {
-    if nth == 0 {
-        return book.kept;
+    match newer {
+        Some(blocks) => book.kept.min(book.phase + blocks * block),
+        None => book.kept,
     }
-    let newer = book.phase + (nth - 1) * block;
-    if newer < book.kept { newer } else { book.kept }
 }
 
 // Puts a ring right, and gives the record that goes with it.
-pub(crate) fn mend(book: Book, shape: Shape, ring: &mut [u8], numbers: &mut [u32]) -> Salvaged
+pub(crate) fn mend(book: Book, shape: Shape, ring: &mut [u8], numbers: &mut [u32]) -> Mended
     requires { Ready book shape (length ring.old) × (slots_of book ≤ length numbers.old) }
-    ensures { (result ≡ record { refusal = 0; count = length (altered book ring.old); book = salvaged_record book ring.old }) × (ring.new ≡ salvaged_ring book ring.old) × (numbers.new ≡ listed (altered book ring.old) numbers.old) }
+    ensures { (result ≡ record { count = length (altered book ring.old); book = salvaged_record book ring.old }) × (ring.new ≡ salvaged_ring book ring.old) × (numbers.new ≡ listed (altered book ring.old) numbers.old) }
 {
     let found = every_slot(book, shape, ring, numbers);
     clear_tail(book, shape, ring);
-    Salvaged {
-        refusal: 0,
-        count: found.count,
-        book: Book {
-            bound: book.bound,
-            length: book.length,
-            tolerance: book.tolerance,
-            carry: book.carry,
-            phase: book.phase,
-            kept: kept(book, shape.block, found.nth),
-            head: book.head,
-            resting: book.resting,
-        },
+    let kept = kept(book, shape.block, found.newer);
+    Mended {
+        count: found.count as u64,
+        book: Book { kept, ..book },
     }
 }

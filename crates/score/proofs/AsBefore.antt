@@ -10,7 +10,7 @@ use lib.ListN.{get_or}
 use Rattle.refusals.specs.First.{first_of}
 use Rattle.refusals.specs.Call.{Call, result_of}
 use Rattle.refusals.proofs.Calls.{result_cases, result_taken, result_refused}
-use Rattle.image.specs.declared.Numbers.{Numbers}
+use Rattle.image.specs.declared.told.Numbers.{Numbers}
 use Rattle.image.specs.Pixels.{pixel_bytes, pixel_at}
 use Rattle.image.specs.Reading.{numbers_of, raster_in, pixel_of}
 use Rattle.image.specs.OneByte.{WideMaxval}

@@ -3,6 +3,7 @@ pub mod BlackBits
 pub mod Near
 pub mod Runs
 pub mod Refused
+mod Reading
 pub mod Scored
 pub mod ScoredUnderMask
 pub mod AsBefore

@@ -11,7 +11,7 @@ use Rattle.refusals.specs.Numbers.{images_differ}
 use Rattle.refusals.specs.First.{◌gives◌, passed_on, first_of}
 use Rattle.refusals.specs.Call.{Call, refusal_of, result_of}
 use Rattle.refusals.proofs.Calls.{passed_on_past, result_taken, result_cases, same_result}
-use Rattle.image.specs.declared.Numbers.{Numbers}
+use Rattle.image.specs.declared.told.Numbers.{Numbers}
 use Rattle.image.specs.Reading.{numbers_of, positions_of, pixel_of}
 use Rattle.image.specs.Mask.{mask_numbers_of}
 use Rattle.score.specs.declared.Answer.{Answer}

@@ -10,7 +10,7 @@ use borrow.Author.Tests.{eqb-true}
 use Rattle.refusals.specs.First.{Fault, ◌gives◌, or_else, first_of}
 use Rattle.refusals.specs.Demand1.{NoneHolds, Numbered}
 use Rattle.refusals.proofs.Calls.{passed_on_numbered, passed_on_none, written_out}
-use Rattle.image.specs.declared.Numbers.{Numbers}
+use Rattle.image.specs.declared.told.Numbers.{Numbers}
 use Rattle.score.specs.Calls.{side_faults, differ_faults, score_faults, Alike}
 use Rattle.score.specs.Masked.{masked_faults, Fits}
 

@@ -9,7 +9,7 @@ use lib.ListN.{length, take, drop}
 use Rattle.refusals.specs.First.{first_of}
 use Rattle.refusals.specs.Call.{refusal_of, result_of}
 use Rattle.refusals.proofs.Calls.{nothing_holds, result_taken}
-use Rattle.image.specs.declared.Numbers.{Numbers}
+use Rattle.image.specs.declared.told.Numbers.{Numbers}
 use Rattle.image.specs.Promised.{Lies}
 use Rattle.image.specs.Kinds.{largest_side, row_bytes}
 use Rattle.image.specs.Pixels.{pixel_bytes}

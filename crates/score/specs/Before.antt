@@ -2,7 +2,7 @@
 -- plain difference, whatever maxval is.
 use Rattle.std.specs.Prelude.{ℕ, ◌*◌, ◌-◌, min, Bool, List, ltb, take, drop, get_or}
 use Rattle.refusals.specs.Call.{Call}
-use Rattle.image.specs.declared.Numbers.{Numbers}
+use Rattle.image.specs.declared.told.Numbers.{Numbers}
 use Rattle.image.specs.Reading.{reading_of, named}
 use Rattle.image.specs.OneByte.{pgm_one_byte}
 use Rattle.score.specs.declared.Answer.{Answer}

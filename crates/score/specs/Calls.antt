@@ -3,7 +3,7 @@ use Rattle.std.specs.Prelude.{ℕ, min, not, List, [], ◌∷◌, ◌++◌, ◌�
 use Rattle.refusals.specs.Numbers.{bad_bound, images_differ}
 use Rattle.refusals.specs.First.{Fault, ◌gives◌, passed_on, outside}
 use Rattle.refusals.specs.Call.{Call}
-use Rattle.image.specs.declared.Numbers.{Numbers}
+use Rattle.image.specs.declared.told.Numbers.{Numbers}
 use Rattle.image.specs.Reading.{numbers_of, positions_of, pixel_of}
 use Rattle.score.specs.declared.Answer.{Answer}
 use Rattle.score.specs.Changed.{moved_at, counted}

@@ -5,3 +5,4 @@ pub mod Black
 pub mod Masked
 pub mod Rows
 pub mod Before
+pub mod Told

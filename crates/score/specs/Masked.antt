@@ -2,7 +2,7 @@
 use Rattle.std.specs.Prelude.{ℕ, ◌<◌, min, Bool, true, false, not, ◌&&◌, List, ◌∷◌, ◌++◌, ◌≡◌}
 use Rattle.refusals.specs.First.{Fault, passed_on}
 use Rattle.refusals.specs.Call.{Call}
-use Rattle.image.specs.declared.Numbers.{Numbers}
+use Rattle.image.specs.declared.told.Numbers.{Numbers}
 use Rattle.image.specs.Reading.{numbers_of, positions_of, pixel_of}
 use Rattle.image.specs.Mask.{mask_numbers_of}
 use Rattle.score.specs.declared.Answer.{Answer}

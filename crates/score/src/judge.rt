@@ -1,83 +1,69 @@
-// Which refusal a score gets, 0 for none: down the lists of faults of specs/Calls.antt and specs/Masked.antt.
-ghost use Rattle.std.specs.Prelude.{◌≡◌};
-ghost use Rattle.refusals.specs.First.{first_of};
-ghost use Rattle.score.specs.Calls.{side_faults, differ_faults, image_faults, score_faults};
-ghost use Rattle.score.specs.Masked.{masked_faults};
+// What a score asks before it counts: down the lists of faults of specs/Calls.antt and specs/Masked.antt.
+ghost use Rattle.std.specs.Prelude.{◌≡◌, [], ◌∷◌, IfOk};
+ghost use Rattle.refusals.specs.Numbers.{bad_bound};
+ghost use Rattle.refusals.specs.First.{◌gives◌, first_of, outside};
+ghost use Rattle.refusals.specs.Refused.{number_in};
+ghost use Rattle.image.specs.Reading.{numbers_of};
+ghost use Rattle.image.specs.Refused.{as_numbers};
+ghost use Rattle.score.specs.Calls.{largest_bound, side_faults, differ_faults, image_faults};
 
-use image::Numbers;
-use refusals::{BAD_BOUND, IMAGES_DIFFER};
+use image::Layout;
+use refusals::Refusal;
 
 // The largest L that a book can have.
 const LARGEST_BOUND: u64 = 65535;
 
-// L out of range, the first image's refusal, the second's.
-fn of_images(bound: u64, one: Numbers, two: Numbers) -> u8
-    ensures { result ≡ first_of (image_faults bound one two) }
+// Two images that are read.
+#[derive(Clone, Copy)]
+pub(crate) struct Pair {
+    pub(crate) one: Layout,
+    pub(crate) two: Layout,
+}
+
+// L is in its range.
+fn in_range(bound: u64) -> Result<(), Refusal>
+    ensures { number_in result ≡ first_of ((outside 1 largest_bound bound gives bad_bound) ∷ []) }
 {
     if bound < 1 {
-        return BAD_BOUND;
+        return Err(Refusal::BadBound);
     }
     if LARGEST_BOUND < bound {
-        return BAD_BOUND;
+        return Err(Refusal::BadBound);
     }
-    if one.refusal != 0 {
-        return one.refusal;
-    }
-    two.refusal
+    Ok(())
 }
 
-// Images, or an image and a mask, that differ in width or height.
-fn sides_differ(one: Numbers, two: Numbers) -> u8
-    ensures { result ≡ first_of (side_faults one two) }
+// L out of range, the first image's refusal, the second's.
+pub(crate) fn readings(bound: u64, first: &[u8], second: &[u8]) -> Result<Pair, Refusal>
+    ensures refusal { number_in result ≡ first_of (image_faults bound (numbers_of first.now) (numbers_of second.now)) }
+    ensures read { IfOk result (λ pair. (as_numbers (Ok pair.one) ≡ numbers_of first.now) × (as_numbers (Ok pair.two) ≡ numbers_of second.now)) }
+{
+    in_range(bound)?;
+    let one = image::header(first)?;
+    let two = image::header(second)?;
+    Ok(Pair { one, two })
+}
+
+// Images, or an image and a mask, have one width and height.
+pub(crate) fn sides(one: Layout, two: Layout) -> Result<(), Refusal>
+    ensures { number_in result ≡ first_of (side_faults (as_numbers (Ok one)) (as_numbers (Ok two))) }
 {
     if one.width != two.width {
-        return IMAGES_DIFFER;
+        return Err(Refusal::ImagesDiffer);
     }
     if one.height != two.height {
-        return IMAGES_DIFFER;
+        return Err(Refusal::ImagesDiffer);
     }
-    0
+    Ok(())
 }
 
-// Images that differ.
-fn differ(one: Numbers, two: Numbers) -> u8
-    ensures { result ≡ first_of (differ_faults one two) }
+// Images have one width, height and maxval.
+pub(crate) fn alike(one: Layout, two: Layout) -> Result<(), Refusal>
+    ensures { number_in result ≡ first_of (differ_faults (as_numbers (Ok one)) (as_numbers (Ok two))) }
 {
-    let sides = sides_differ(one, two);
-    if sides != 0 {
-        return sides;
-    }
+    sides(one, two)?;
     if one.maxval != two.maxval {
-        return IMAGES_DIFFER;
+        return Err(Refusal::ImagesDiffer);
     }
-    0
-}
-
-// Of a score.
-pub(crate) fn refusal(bound: u64, one: Numbers, two: Numbers) -> u8
-    ensures { result ≡ first_of (score_faults bound one two) }
-{
-    let own = of_images(bound, one, two);
-    if own != 0 {
-        return own;
-    }
-    differ(one, two)
-}
-
-// Of a score under a mask.
-pub(crate) fn masked_refusal(bound: u64, one: Numbers, two: Numbers, mask: Numbers) -> u8
-    ensures { result ≡ first_of (masked_faults bound one two mask) }
-{
-    let own = of_images(bound, one, two);
-    if own != 0 {
-        return own;
-    }
-    if mask.refusal != 0 {
-        return mask.refusal;
-    }
-    let unlike = differ(one, two);
-    if unlike != 0 {
-        return unlike;
-    }
-    sides_differ(one, mask)
+    Ok(())
 }

@@ -2,22 +2,20 @@
 -- and ring are the book's; where it has none, 18 is the refusal unless a fault up to 4 holds.
 -- Assumes nothing.
 use Prim.Native.Nat.{ℕ, ◌≤◌}
-use native.Mathlib.Omega.{arith}
-use mathlib.Core.Bool.{true, false}
+use mathlib.Core.Bool.{false}
 use mathlib.Core.List.{List, ◌∷◌, ◌++◌}
 use mathlib.Core.Path.{◌≡◌, refl, sym, ap, ◌∙◌}
 use borrow.Author.Tests.{lt-ltb, le-ltb, ltb-false}
 use lib.Dec.{T, ltb}
 use lib.ListN.{length}
-use Rattle.refusals.specs.Numbers.{row_too_short}
 use Rattle.refusals.specs.First.{Fault, first_of}
 use Rattle.refusals.specs.Call.{Call, refusal_of, result_of, left_of}
-use Rattle.refusals.proofs.Laws.{first_append, avoids}
+use Rattle.refusals.proofs.Laws.{first_append}
 use Rattle.refusals.specs.Demand1.{Tells}
 use Rattle.refusals.proofs.Calls.{same_result, same_left, none_refuses, none_is0, written_out, result_taken, result_refused, left_taken, left_refused}
 use Rattle.sums.specs.Calls.{RingAndRow, row_fault, with_row}
 use Rattle.sums.specs.Beside.{SameAs, BesideTheBook}
-use Rattle.sums.proofs.RowFirst.{gives18, passes_18, stops_18, room_known}
+use Rattle.sums.proofs.RowFirst.{room_known}
 
 -- ANY CALL of the book, the row's entries, and the row before and after
 module _ {Result : Type 0} (own : Call Result (List ℕ)) (up_to4 later : List Fault) (decides : refusal_of own ≡ first_of (up_to4 ++ later))
@@ -34,28 +32,6 @@ module _ {Result : Type 0} (own : Call Result (List ℕ)) (up_to4 later : List F
   in_room room =
       let roomy : ltb (length row) entries ≡ false = le-ltb (length row) entries room in
       first_append up_to4 (row_fault entries (length row) ∷ later) ∙ rw roomy (sym (first_append up_to4 later)) ∙ sym decides
-
-  -- AS THE CODE JUDGES. 18 is given: the call hands back what the book's own would, and ring and row are as they were lent
-  module _ (none : T (avoids row_too_short up_to4)) (short : gives18 up_to4 later (ltb (length row) entries) ≡ true) where
-    found : row_too_short ≡ refusal_of call
-    found = sym (stops_18 up_to4 later (ltb (length row) entries) none short)
-
-    pub short_result : own.back row_too_short ≡ result_of call
-    short_result = result_refused call found (λ e. omega arith)
-
-    pub short_left : call.lent ≡ left_of call
-    short_left = left_refused call found (λ e. omega arith)
-
-  -- it is not: the call is the book's own, and the row is left where the book refuses, and otherwise as the call says
-  module _ (passed : gives18 up_to4 later (ltb (length row) entries) ≡ false) where
-    pub passed_same : SameAs own call
-    passed_same = same_as (passes_18 up_to4 later (ltb (length row) entries) passed ∙ sym decides)
-
-    pub passed_refused : (refusal_of own ≡ 0 → ⊥) → row ≡ (left_of call).row
-    passed_refused some = ap (λ (l : RingAndRow). l.row) (left_refused call (sym passed_same.same_refusal) some)
-
-    pub passed_taken : refusal_of own ≡ 0 → after ≡ (left_of call).row
-    passed_taken taken = ap (λ (l : RingAndRow). l.row) (left_taken call (sym passed_same.same_refusal) taken)
 
   pub beside_the_book : BesideTheBook own up_to4 entries row after call
   beside_the_book =
@@ -80,3 +56,33 @@ module _ {Result : Type 0} (own : Call Result (List ℕ)) (up_to4 later : List F
             ap number_in (result_taken own refl e) ∙ told ∙ e);
         back_own = back;
       }
+
+-- AS THE CODE GIVES A REFUSAL BACK, found among the faults up to 18 or later: with what the book's own hands back, and ring and row as they were lent
+module _ {Result : Type 0} {own : Call Result (List ℕ)} {earlier : List Fault} {entries : ℕ} {row after : List ℕ} {call : Call Result RingAndRow}
+    (beside : BesideTheBook own earlier entries row after call) where
+  pub handed_back : {number : ℕ} → number ≡ refusal_of call → (number ≡ 0 → ⊥)
+      → (own.back number ≡ result_of call) × (own.lent ≡ (left_of call).ring) × (row ≡ (left_of call).row)
+  handed_back {number} found some =
+      let refused : refusal_of call ≡ 0 → ⊥ = λ e. some (found ∙ e) in
+      (ap own.back found ∙ sym (beside.refused_result refused), sym (beside.refused_ring refused), sym (beside.row_back refused))
+
+  -- and where the book's own call answers, the row has room for it
+  module _ (room : entries ≤ length row) where
+    abbrev same : SameAs own call
+    same = beside.with_room room
+
+    pub answers : {given : Result} {ring' row' : List ℕ} → refusal_of own ≡ 0 → given ≡ result_of own → ring' ≡ left_of own → row' ≡ after
+        → (given ≡ result_of call) × (ring' ≡ (left_of call).ring) × (row' ≡ (left_of call).row)
+    answers taken given_is ring_is row_is = (
+      given_is ∙ sym same.same_result,
+      ring_is ∙ sym same.same_ring,
+      row_is ∙ sym (beside.row_after (same.same_refusal ∙ taken)),
+    )
+
+    pub refuses : {back : Result} {ring' : List ℕ} → (refusal_of own ≡ 0 → ⊥) → back ≡ result_of own → ring' ≡ left_of own
+        → (back ≡ result_of call) × (ring' ≡ (left_of call).ring) × (row ≡ (left_of call).row)
+    refuses some back_is ring_is = (
+      back_is ∙ sym same.same_result,
+      ring_is ∙ sym same.same_ring,
+      sym (beside.row_back (λ e. some (sym same.same_refusal ∙ e))),
+    )

@@ -14,7 +14,7 @@ use Rattle.book.specs.Record.{slots_of}
 use Rattle.book.specs.Sound.{Sound}
 use Rattle.book.specs.Figure.{slots_for}
 use Rattle.book.proofs.Promises.{le_or_lt, for_high}
-use Rattle.sums.specs.declared.Summed.{Summed}
+use Rattle.sums.specs.declared.told.Summed.{Summed}
 use Rattle.sums.specs.Rule.{fields_for, sums_for}
 use Rattle.sums.specs.Calls.{total_row_call}
 use Rattle.sums.proofs.ByTheRule.{fields_few, sums_few}

@@ -35,8 +35,12 @@ module _ (width slots : ℕ) (ring : List ℕ) (whole : Lent width slots (length
         }
 
     -- the ring's sum of the last of them is the sum of a run of slots
+    pub ring_answers : (from : ℕ) → from < first
+        → result_of (sum_call width first ring 0 (first - from)) ≡ record { refusal = 0; value = sum_from (field width ring) from (first - from) }
+    ring_answers from lt =
+        sum_sums width first ring first_slots 0 some (first - from) (omega arith)
+        ∙ ap (λ (sum : ℕ). record { refusal = 0; value = sum }) (last_is_run (field width ring) from first lt)
+
     pub ring_sums : (from : ℕ) → from < first
         → (result_of (sum_call width first ring 0 (first - from))).value ≡ sum_from (field width ring) from (first - from)
-    ring_sums from lt =
-        ap (λ (a : Answer). a.value) (sum_sums width first ring first_slots 0 some (first - from) (omega arith))
-        ∙ last_is_run (field width ring) from first lt
+    ring_sums from lt = ap (λ (a : Answer). a.value) (ring_answers from lt)

@@ -2,6 +2,7 @@ pub mod RowFirst
 pub mod SumsOfFields
 pub mod Ends
 pub mod FieldsInRange
+pub mod Answered
 pub mod ShapeInUse
 pub mod ByTheRule
 pub mod KeptRow
@@ -13,6 +14,7 @@ pub mod Judging
 pub mod ItemWithRow
 pub mod TotalWithRow
 pub mod RunTurns
+pub mod InOrder
 pub mod RowOfABook
 pub mod FewRead
 pub mod RowStays

@@ -12,7 +12,7 @@ pub use Rattle.sums.proofs.TotalWithRow.{total_row_gives, total_row_number, tota
 -- a refused item or run hands the record back as it came, and a total leaves ring and row
 pub use Rattle.sums.proofs.ComesBack.{add_row_back, run_row_back, total_row_asks}
 -- demand 1 and uniqueness of each
-pub use Rattle.sums.proofs.Demand1.{open_row_promised, add_row_promised, run_row_promised, total_row_promised}
+pub use Rattle.sums.proofs.Demand1.{open_row_promised, add_row_promised, run_row_promised, total_row_promised, open_row_tells, add_row_tells, run_row_tells, total_row_tells, total_row_leaves}
 -- THE ROW. Which slots end a group, for all slots and of 65. Where an item closes a block the row is as storing leaves it, and otherwise it stays;
 -- storing puts the sum into the entry of the group that ends, if one does, and leaves every other entry. An opening's
 -- cleared row holds no sum; no call changes the row's length or an entry that is not used, whatever it is called with
@@ -39,7 +39,7 @@ pub use Rattle.sums.proofs.Ends.{group_end_lem}
 -- SUMS OF FIELDS: of none, of a run between two sums from slot 0, and that they see nothing but their own fields; those of a ring stay small,
 -- and are what the ring's own call sums
 pub use Rattle.sums.proofs.SumsOfFields.{from_none, between, to_same}
-pub use Rattle.sums.proofs.FieldsInRange.{sum_small, ring_sums}
+pub use Rattle.sums.proofs.FieldsInRange.{sum_small, ring_sums, ring_answers}
 -- FOR CALLS ABOVE with a row beside a call of their own: what it then is, and what it tells
 pub use Rattle.sums.proofs.BesideTheBook.{beside_the_book, with_row_tells}
 -- the numbers that were derived of a book's L, n and D are its own
@@ -48,3 +48,7 @@ pub use Rattle.sums.proofs.Judging.{shape_of_book}
 pub use Rattle.sums.proofs.PartByPart.{row_none, row_more, row_apart, Stays, still_a_book}
 -- a group that no block has finished has the entry 0, of a book that was opened with its row
 pub use Rattle.sums.proofs.UnfinishedGroups.{Unfinished, unfinished_fresh, unfinished_all}
+-- what a call of the ring, an opening or a run has returned where its row says that it is taken
+pub use Rattle.sums.proofs.Answered.{ring_ok, oldest_read, done_ok, updated_ok, run_ok, same_ok}
+-- asking 18 with a book's numbers at hand: it comes behind the earlier faults, and where it is not given the row has room
+pub use Rattle.sums.proofs.Judging.{row_next, entries_are, row_has_room}

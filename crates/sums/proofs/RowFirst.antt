@@ -5,15 +5,13 @@ use Prim.Native.Nat.{ℕ, zero, suc, ◌<◌}
 use native.Mathlib.Omega.{arith}
 use mathlib.Core.Bool.{Bool, true, false, cond}
 use mathlib.Core.List.{List, [], ◌∷◌, ◌++◌}
-use mathlib.Core.Logic.{◌⊎◌, inl, inr}
-use mathlib.Core.Path.{◌≡◌, refl, sym, ap, ◌∙◌}
-use borrow.Author.Tests.{lt-ltb, eqb-true, ne_eqb}
-use lib.Dec.{T, eqb}
+use mathlib.Core.Path.{◌≡◌, refl, sym, ◌∙◌}
+use borrow.Author.Tests.{lt-ltb}
 use lib.ListN.{length, drop}
 use Rattle.refusals.specs.Numbers.{row_too_short}
 use Rattle.refusals.specs.First.{Fault, ◌gives◌, or_else, first_of}
 use Rattle.refusals.specs.Call.{Call, refusal_of}
-use Rattle.refusals.proofs.Laws.{first_append, first_goes_on, avoids, first_avoids}
+use Rattle.refusals.proofs.Laws.{first_append, first_goes_on}
 use Rattle.refusals.proofs.Calls.{none_refuses}
 use Rattle.book.specs.declared.Book.{Book}
 use Rattle.book.specs.Sound.{Usable}
@@ -24,63 +22,9 @@ use Rattle.sums.specs.Calls.{RingAndRow, add_row_call, run_row_call, total_row_c
 
 -- FAULTS with 18 among them
 module _ (earlier later : List Fault) (short : Bool) where
-  -- 18 is given: it holds, and no fault before it does
-  abbrev pub gives18 : Bool
-  gives18 = eqb (first_of (earlier ++ (short gives row_too_short) ∷ [])) row_too_short
-
   apart : (rest : List Fault) → first_of (earlier ++ (short gives row_too_short) ∷ rest)
       ≡ or_else (first_of earlier) (or_else (cond short row_too_short 0) (first_of rest))
   apart rest = first_append earlier ((short gives row_too_short) ∷ rest)
-
-  -- where it is not, the other faults decide
-  pub passes_18 : gives18 ≡ false → first_of (earlier ++ (short gives row_too_short) ∷ later) ≡ first_of (earlier ++ later)
-  passes_18 not =
-      apart later ∙ by short (first_of earlier) (sym (ap (λ (n : ℕ). eqb n row_too_short) (apart [])) ∙ not) ∙ sym (first_append earlier later)
-    where
-      by : (s : Bool) (n : ℕ) → eqb (or_else n (or_else (cond s row_too_short 0) 0)) row_too_short ≡ false
-          → or_else n (or_else (cond s row_too_short 0) (first_of later)) ≡ or_else n (first_of later)
-      by false n e = refl
-      by true zero e = absurd (let z : ◌≡◌ {A = ℕ} 0 1 = cc in omega arith)
-      by true (suc n) e = refl
-
-  -- where it is, it is the refusal, whatever comes later
-  pub stops_18 : T (avoids row_too_short earlier) → gives18 ≡ true → first_of (earlier ++ (short gives row_too_short) ∷ later) ≡ row_too_short
-  stops_18 none given =
-      apart later
-      ∙ by short (first_of earlier) (λ e. first_avoids 17 earlier none e) (sym (ap (λ (n : ℕ). eqb n row_too_short) (apart [])) ∙ given)
-    where
-      by : (s : Bool) (n : ℕ) → (n ≡ row_too_short → ⊥) → eqb (or_else n (or_else (cond s row_too_short 0) 0)) row_too_short ≡ true
-          → or_else n (or_else (cond s row_too_short 0) (first_of later)) ≡ row_too_short
-      by true zero ne e = refl
-      by false zero ne e = absurd (let z : ◌≡◌ {A = ℕ} 0 1 = cc in omega arith)
-      by true (suc n) ne e = absurd (ne (eqb-true (suc n) row_too_short e))
-      by false (suc n) ne e = absurd (ne (eqb-true (suc n) row_too_short e))
-
-  -- it is not where it does not hold, nor where a fault before it does
-  pub not_18 : T (avoids row_too_short earlier) → (short ≡ false) ⊎ (first_of earlier ≡ 0 → ⊥) → gives18 ≡ false
-  not_18 none why = ap (λ (n : ℕ). eqb n row_too_short) (apart []) ∙ by short (first_of earlier) (λ e. first_avoids 17 earlier none e) why
-    where
-      by : (s : Bool) (n : ℕ) → (n ≡ row_too_short → ⊥) → (s ≡ false) ⊎ (n ≡ 0 → ⊥)
-          → eqb (or_else n (or_else (cond s row_too_short 0) 0)) row_too_short ≡ false
-      by false zero ne w = refl
-      by true zero ne (inl e) = absurd (let z : ◌≡◌ {A = ℕ} 0 1 = cc in omega arith)
-      by true zero ne (inr some) = absurd (some refl)
-      by false (suc n) ne w = ne_eqb (suc n) row_too_short ne
-      by true (suc n) ne w = ne_eqb (suc n) row_too_short ne
-
-  -- it is where it holds and none before it does
-  pub is_18 : short ≡ true → first_of earlier ≡ 0 → gives18 ≡ true
-  is_18 holds passed = ap (λ (n : ℕ). eqb n row_too_short) (apart []) ∙ rw (holds, passed) refl
-
-  -- where it is not, and none before it holds, it does not hold
-  pub not_short : gives18 ≡ false → first_of earlier ≡ 0 → short ≡ false
-  not_short not passed = by short (sym (ap (λ (n : ℕ). eqb n row_too_short) (apart [])) ∙ not)
-    where
-      by : (s : Bool) → eqb (or_else (first_of earlier) (or_else (cond s row_too_short 0) 0)) row_too_short ≡ false → s ≡ false
-      by false e = refl
-      by true e =
-          let q : eqb (or_else 0 (or_else row_too_short 0)) row_too_short ≡ false = rw passed at e in
-          absurd (let z : ◌≡◌ {A = ℕ} 0 1 = cc in omega arith)
 
   -- where nothing is refused, 18 does not hold
   pub room_known : first_of (earlier ++ (short gives row_too_short) ∷ later) ≡ 0 → short ≡ false

@@ -7,8 +7,8 @@ use mathlib.Core.Path.{◌≡◌, sym, ap, ◌∙◌}
 use lib.ListN.{length}
 use Rattle.refusals.specs.Call.{refusal_of, result_of, left_of}
 use Rattle.book.specs.declared.Book.{Book}
-use Rattle.book.specs.declared.Updated.{Updated}
-use Rattle.book.specs.declared.Ran.{Ran}
+use Rattle.book.specs.declared.told.Updated.{Updated}
+use Rattle.book.specs.declared.told.Ran.{Ran}
 use Rattle.book.specs.Derived.{slot_count}
 use Rattle.book.specs.Resting.{awake}
 use Rattle.book.specs.Sound.{Usable}

@@ -9,7 +9,7 @@ use lib.ListN.{length}
 use Rattle.refusals.specs.Numbers.{item_too_large}
 use Rattle.refusals.specs.Call.{refusal_of, result_of}
 use Rattle.book.specs.declared.Book.{Book}
-use Rattle.book.specs.declared.Ran.{Ran}
+use Rattle.book.specs.declared.told.Ran.{Ran}
 use Rattle.book.specs.Derived.{slot_count, bytes_needed}
 use Rattle.book.specs.Shape.{number_faults}
 use Rattle.book.specs.Calls.{room_fault, book_faults, rest_fault, item_fault, counts_fault, open_call, add_call, run_call}

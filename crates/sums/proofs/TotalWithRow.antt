@@ -13,16 +13,16 @@ use Rattle.refusals.specs.Call.{Call, refusal_of, result_of}
 use Rattle.refusals.proofs.Laws.{first_append, first_stops, first_goes_on}
 use Rattle.refusals.proofs.Calls.{tells, result_number, result_taken, result_refused}
 use Rattle.book.specs.declared.Book.{Book}
-use Rattle.book.specs.declared.Figure.{Figure}
+use Rattle.book.specs.declared.told.Figure.{Figure}
 use Rattle.book.specs.Sound.{Usable}
 use Rattle.book.specs.Calls.{book_faults, window_fault, total_call}
 use Rattle.book.proofs.Promises.{total_refusal, total_taken, total_known, total_gives}
-use Rattle.sums.specs.declared.Summed.{Summed}
+use Rattle.sums.specs.declared.told.Summed.{Summed}
 use Rattle.sums.specs.Row.{entries_of}
 use Rattle.sums.specs.Rule.{fields_for, sums_for, figure_by_row}
 use Rattle.sums.specs.Calls.{RingAndRow, row_fault, total_row_call}
-use Rattle.sums.proofs.RowFirst.{room_known, total_18}
-use Rattle.sums.proofs.Judging.{use_passes}
+use Rattle.sums.proofs.RowFirst.{room_known}
+use Rattle.sums.proofs.Judging.{use_passes, row_next}
 use Rattle.sums.proofs.FigureByTheRow.{figure_inside, fields_inside, sums_inside}
 
 module _ (book : Book) (ring row : List ℕ) (window : ℕ) where
@@ -85,9 +85,11 @@ module _ (book : Book) (ring row : List ℕ) (window : ℕ) where
   -- and of a book with its ring
   module _ (usable : Usable book (length ring)) where
     -- 18, where the row is too short
-    pub short_refused : length row < entries_of book → record { refusal = row_too_short; figure = 0; fields = 0; sums = 0 } ≡ result_of call
+    pub row_refused : {number : ℕ} → number ≡ first_of (row_fault (entries_of book) (length row) ∷ []) → (number ≡ 0 → ⊥)
+        → record { refusal = number; figure = 0; fields = 0; sums = 0 } ≡ result_of call
     unfolding total_row_call
-    short_refused few = result_refused call (sym (total_18 book ring row usable few window)) (λ e. omega arith)
+    row_refused found some =
+        result_refused call (row_next up_to4 behind (entries_of book) (length row) (use_passes book (length ring) usable) found some) some
 
     module _ (room : entries_of book ≤ length row) where
       -- 5, where the window is longer than kept

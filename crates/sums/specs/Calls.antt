@@ -5,12 +5,12 @@ use Rattle.refusals.specs.Numbers.{row_too_short}
 use Rattle.refusals.specs.First.{Fault, ◌gives◌}
 use Rattle.refusals.specs.Call.{Call}
 use Rattle.book.specs.declared.Book.{Book}
-use Rattle.book.specs.declared.Updated.{Updated}
-use Rattle.book.specs.declared.Ran.{Ran}
+use Rattle.book.specs.declared.told.Updated.{Updated}
+use Rattle.book.specs.declared.told.Ran.{Ran}
 use Rattle.book.specs.Derived.{slot_count, bytes_needed}
 use Rattle.book.specs.Shape.{number_faults}
 use Rattle.book.specs.Calls.{room_fault, book_faults, rest_fault, item_fault, counts_fault, window_fault, open_call, add_call, run_call}
-use Rattle.sums.specs.declared.Summed.{Summed}
+use Rattle.sums.specs.declared.told.Summed.{Summed}
 use Rattle.sums.specs.Row.{entries_for, entries_of, added_row, added_all_row, cleared_row}
 use Rattle.sums.specs.Rule.{fields_for, sums_for, figure_by_row}
 

@@ -5,3 +5,4 @@ pub mod RunParts
 pub mod Calls
 pub mod Beside
 pub mod OneByOne
+pub mod Told

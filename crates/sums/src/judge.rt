@@ -1,94 +1,87 @@
-// What is refused before anything is changed: the row's own refusal, and whether a run of counts is refused at all.
-ghost use Rattle.std.specs.Prelude.{◌≡◌, [], ◌∷◌, ◌++◌, eqb};
-ghost use Rattle.refusals.specs.Numbers.{row_too_short};
-ghost use Rattle.refusals.specs.First.{first_of, is_refusal};
-ghost use Rattle.refusals.specs.Call.{result_of, refusal_of};
-ghost use Rattle.book.specs.Derived.{slot_count, bytes_needed};
-ghost use Rattle.book.specs.Shape.{number_faults, shape_call};
+// What is refused before anything is changed: the book's refusals 8 and 4, the row's own, 18, behind them, and what a run of counts asks next.
+ghost use Rattle.std.specs.Prelude.{◌≡◌, ℕ, ◌≤◌, ◌<◌, false, [], ◌∷◌, ◌++◌, length, slice_index, EachIndex, MatchOption, MatchResult};
+ghost use Rattle.refusals.specs.First.{first_of};
+ghost use Rattle.refusals.specs.Refused.{number_of, number_in};
+ghost use Rattle.book.specs.Record.{shape_for};
+ghost use Rattle.book.specs.Resting.{awake};
 ghost use Rattle.book.specs.RunOfCounts.{any_above};
-ghost use Rattle.book.specs.Calls.{room_fault, book_faults, run_call};
+ghost use Rattle.book.specs.Sound.{Ranges};
+ghost use Rattle.book.specs.Ready.{Ready};
+ghost use Rattle.book.specs.Calls.{room_fault, record_faults, book_faults};
 ghost use Rattle.sums.specs.Row.{entries_for, entries_of};
+ghost use Rattle.sums.specs.RunParts.{RefusedFor};
 ghost use Rattle.sums.specs.Calls.{row_fault};
 
 use crate::row;
-use book::Book;
 use book::shape::Shape;
-use refusals::RING_TOO_SHORT;
+use book::{Book, RunRefusal};
+use refusals::Refusal;
 
-// 18 at opening: the row is too short. 1, 2 and 3 come before it, where no number is derived, and 4.
-pub(crate) fn opening_short(
-    bound: u64,
-    length: u64,
-    tolerance: u64,
-    shape: Shape,
-    ring: u64,
-    row: u64,
-) -> bool
-    requires { shape ≡ (result_of (shape_call bound length tolerance)).shape }
-    ensures { result ≡ eqb (first_of ((number_faults bound length tolerance ++ room_fault (bytes_needed bound length tolerance) ring ∷ []) ++ row_fault (entries_for (slot_count bound length tolerance)) row ∷ [])) row_too_short }
+// 4: the ring is too short.
+pub fn room_for_ring(shape: Shape, ring: usize) -> Result<(), Refusal>
+    ensures { number_in result ≡ first_of (room_fault shape.bytes ring ∷ []) }
 {
-    if row::entries(shape.slots) <= row {
-        return false;
+    if (ring as u64) < shape.bytes {
+        return Err(Refusal::RingTooShort);
     }
-    shape.bytes <= ring
+    Ok(())
 }
 
-// 8, then 4, by the book's own judgement: what waking is refused with is 8. The record that it gives is not used.
-pub(crate) fn book_refusal(book: Book, shape: Shape, ring: u64) -> u8
-    requires { shape ≡ (result_of (shape_call book.bound book.length book.tolerance)).shape }
-    ensures { result ≡ first_of (book_faults book ring) }
+// 18: the row is too short.
+pub fn room_for_row(shape: Shape, row: usize) -> Result<(), Refusal>
+    ensures { number_in result ≡ first_of (row_fault (entries_for shape.slots) row ∷ []) }
 {
-    let refusal = book::wake(book).refusal;
-    if refusal != 0 {
-        return refusal;
+    if row < row::entries(shape.slots) {
+        return Err(Refusal::RowTooShort);
     }
-    if ring < shape.bytes {
-        return RING_TOO_SHORT;
-    }
-    0
+    Ok(())
 }
 
-// 18 with a book: the row is too short. 8 and 4 come before it, and are asked for only then.
-pub(crate) fn row_short(book: Book, shape: Shape, ring: u64, row: u64) -> bool
-    requires { shape ≡ (result_of (shape_call book.bound book.length book.tolerance)).shape }
-    ensures { result ≡ eqb (first_of (book_faults book ring ++ row_fault (entries_of book) row ∷ [])) row_too_short }
+// The numbers of a record; where its L, n and D have none, it is no book.
+fn numbers(book: Book) -> Result<Shape, Refusal>
+    ensures { MatchResult result (λ shape. Ranges book.bound book.length book.tolerance × (shape ≡ shape_for book)) (λ refusal. number_of refusal ≡ first_of (record_faults book)) }
 {
-    if row::entries(shape.slots) <= row {
-        return false;
-    }
-    book_refusal(book, shape, ring) == 0
+    book::shape::derive(book.bound, book.length, book.tolerance).or(Err(Refusal::NoBook))
 }
 
-// Whether the book refuses a run: a run is all or nothing, and this one goes into the book in parts.
-pub(crate) fn refuses(book: Book, shape: Shape, ring: &[u8], counts: &[u64]) -> bool
-    requires { shape ≡ (result_of (shape_call book.bound book.length book.tolerance)).shape }
-    ensures { result ≡ is_refusal (refusal_of (run_call book ring.now counts.now)) }
+// 8, then 4. 8 is what waking is refused with: the record that it gives is not used.
+pub fn usable(book: Book, ring: usize) -> Result<Shape, Refusal>
+    ensures { MatchResult result (λ shape. Ready book shape ring) (λ refusal. number_of refusal ≡ first_of (book_faults book ring)) }
 {
-    if book_refusal(book, shape, count(ring.len())) != 0 {
-        return true;
+    let shape = numbers(book)?;
+    book::wake(book)?;
+    room_for_ring(shape, ring)?;
+    Ok(shape)
+}
+
+// 18, for a call of the book that asks for 8 and 4 by itself: they come before it, but are asked for here only where the row is too short.
+pub(crate) fn room_beside(book: Book, ring: usize, row: usize) -> Result<Shape, Refusal>
+    ensures { MatchResult result (λ shape. (shape ≡ shape_for book) × (entries_of book ≤ row)) (λ refusal. number_of refusal ≡ first_of (book_faults book ring ++ row_fault (entries_of book) row ∷ [])) }
+{
+    let shape = numbers(book)?;
+    if let Err(short) = room_for_row(shape, row) {
+        usable(book, ring)?;
+        return Err(short);
     }
+    Ok(shape)
+}
+
+// 17, then 7 with the place, from 1, of the first count above the bound.
+pub(crate) fn takes(book: Book, counts: &[u64]) -> Result<(), RunRefusal>
+    ensures { MatchResult result (λ done. (book.resting ≡ awake) × (any_above book.bound counts.now ≡ false)) (λ refusal. RefusedFor book counts.now refusal) }
+{
     if book.resting != 0 {
-        return true;
+        return Err(RunRefusal::Refused(Refusal::BookRests));
     }
-    any_above(book.bound, counts)
+    if let Some(index) = first_above(book.bound, counts) {
+        return Err(RunRefusal::CountTooLarge(index as u64 + 1));
+    }
+    Ok(())
 }
 
-fn any_above(bound: u64, counts: &[u64]) -> bool
-    ensures { result ≡ any_above bound counts.now }
+// The index of the first count above the bound, if there is one.
+fn first_above(bound: u64, counts: &[u64]) -> Option<usize>
+    ensures { MatchOption result (EachIndex counts.now (λ k. slice_index counts.now k ≤ bound)) (λ i. (i < length counts.now) × (bound < slice_index counts.now i) × ((k : ℕ) → k < i → slice_index counts.now k ≤ bound)) }
 {
-    let mut i = 0;
-    while i < counts.len() {
-        if bound < counts[i] {
-            return true;
-        }
-        i += 1;
-    }
-    false
-}
-
-// A length as a number of the book.
-pub(crate) fn count(n: usize) -> u64
-    ensures { result ≡ n }
-{
-    n as u64
+    counts.iter().position(|count| bound < *count)
 }

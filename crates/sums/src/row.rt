@@ -10,21 +10,20 @@ use book::shape::Shape;
 
 pub(crate) const GROUP: u64 = 32;
 
-// One entry for each group of slots.
-pub(crate) fn entries(slots: u64) -> u64
-    requires { slots ≤ 4096 }
+// How many entries a row has for a book with so many slots: one for each group of them.
+pub fn entries(slots: u64) -> usize
     ensures { result ≡ entries_for slots }
 {
-    (slots + (GROUP - 1)) / GROUP
+    slots.div_ceil(GROUP) as usize
 }
 
 // The end of the group in which a slot lies.
-pub(crate) fn group_end(slots: u64, slot: u64) -> u64
+#[tactic(auto, unfolding(crate::specs::Row::group_end))]
+pub fn group_end(slots: u64, slot: u64) -> u64
     requires { slot ≤ 4096 }
     ensures { result ≡ group_end slots slot }
 {
-    let end = (slot / GROUP + 1) * GROUP;
-    if end < slots { end } else { slots }
+    slots.min((slot / GROUP + 1) * GROUP)
 }
 
 // The entry of a group's end.
@@ -36,6 +35,7 @@ pub(crate) fn entry(end: u64) -> usize
 }
 
 // The sum that stands at an end.
+#[tactic(auto, unfolding(crate::specs::Rule::stored_at))]
 pub(crate) fn stored_at(row: &[u32], end: u64) -> u64
     requires { end ≤ length row.now * 32 }
     ensures { (result ≡ stored_at row.now end) × (result ≤ 4294967295) }
@@ -47,20 +47,15 @@ pub(crate) fn stored_at(row: &[u32], end: u64) -> u64
 }
 
 // Sets the first n entries to 0.
-pub(crate) fn clear(row: &mut [u32], n: u64)
+pub(crate) fn clear(row: &mut [u32], n: usize)
     requires { n ≤ length row.old }
     ensures { row.new ≡ replicate n 0 ++ drop n row.old }
 {
-    let count = n as usize;
-    let mut i = 0;
-    while i < count {
-        row[i] = 0;
-        i += 1;
-    }
+    row[..n].fill(0);
 }
 
 // The sum of the fields from slot `from` up to, not including, slot `to`: the ring's own sum, told of `to` slots and asked for the last of them.
-pub(crate) fn fields(shape: Shape, ring: &[u8], from: u64, to: u64) -> u64
+pub fn fields(shape: Shape, ring: &[u8], from: u64, to: u64) -> u64
     requires { Lent shape.width shape.slots (length ring.now) × (from ≤ to) × (to ≤ shape.slots) }
     ensures { result ≡ sum_from (field shape.width ring.now) from (to - from) }
 {
@@ -74,7 +69,7 @@ pub(crate) fn fields(shape: Shape, ring: &[u8], from: u64, to: u64) -> u64
         0,
         (to - from) as usize,
     )
-    .value
+    .unwrap()
 }
 
 // Puts the sum of the ring's fields from slot 0 up to a group's end into the group's entry. Up to `from` the row has that sum already, so that

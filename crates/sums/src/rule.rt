@@ -34,13 +34,7 @@ pub(crate) struct Newest {
     pub(crate) sums: u64,
 }
 
-// a − b, or 0 if that is negative.
-pub(crate) fn less(a: u64, b: u64) -> u64
-    ensures { result ≡ a - b }
-{
-    if a < b { 0 } else { a - b }
-}
-
+#[tactic(auto, unfolding(crate::specs::Rule::end_after))]
 fn end_after(slots: u64, slot: u64) -> u64
     requires { slot ≤ 4096 }
     ensures { result ≡ end_after slots slot }
@@ -51,6 +45,7 @@ fn end_after(slots: u64, slot: u64) -> u64
     row::group_end(slots, slot)
 }
 
+#[tactic(auto, unfolding(crate::specs::Rule::end_before))]
 fn end_before(slots: u64, slot: u64) -> u64
     ensures { result ≡ end_before slots slot }
 {
@@ -60,6 +55,7 @@ fn end_before(slots: u64, slot: u64) -> u64
     slot / row::GROUP * row::GROUP
 }
 
+#[tactic(auto, unfolding(crate::specs::Rule::parts_of))]
 fn split(slots: u64, from: u64, to: u64) -> Parts
     requires { (from ≤ to) × (to ≤ slots) × (slots ≤ 4096) }
     ensures { result ≡ parts_of slots from to }
@@ -112,10 +108,16 @@ pub(crate) fn read_newest(shape: Shape, ring: &[u8], row: &[u32], head: u64, j: 
     ensures value { (result.sum ≡ sum_by_row shape.slots head j (field shape.width ring.now) row.now) × (result.sum ≤ 17179869184) }
     ensures counts { (result.fields ≡ fields_read shape.slots head j) × (result.sums ≡ sums_read shape.slots head j) }
 {
-    let near = read(shape, ring, row, less(head, j), head);
-    let far = read(shape, ring, row, shape.slots - less(j, head), shape.slots);
+    let near = read(shape, ring, row, head.saturating_sub(j), head);
+    let far = read(
+        shape,
+        ring,
+        row,
+        shape.slots - j.saturating_sub(head),
+        shape.slots,
+    );
     Newest {
-        sum: less(near.added + far.added, near.taken + far.taken),
+        sum: (near.added + far.added).saturating_sub(near.taken + far.taken),
         fields: near.fields + far.fields,
         sums: near.sums + far.sums,
     }

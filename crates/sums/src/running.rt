@@ -6,7 +6,7 @@ ghost use Rattle.book.specs.RunOfCounts.{added_all, added_all_ring};
 ghost use Rattle.sums.specs.Row.{added_all_row};
 ghost use Rattle.sums.specs.RunParts.{Taking, items_left, Stands};
 
-use crate::{judge, row};
+use crate::row;
 use book::Book;
 use book::shape::Shape;
 
@@ -31,8 +31,8 @@ fn add_part(
     requires { Taking book shape (length ring.old) (length row.old) counts.now × (length counts.now ≤ items_left book) × (from ≤ book.head) × Stands shape ring.old row.old from }
     ensures { (result ≡ added_all book counts.now) × (ring.new ≡ added_all_ring book ring.old counts.now) × (row.new ≡ added_all_row book ring.old row.old counts.now) }
 {
-    let ran = book::run(book, ring, counts);
-    if judge::count(counts.len()) == items_left(book, shape) {
+    let added = book::run(book, ring, counts).unwrap();
+    if counts.len() as u64 == items_left(book, shape) {
         row::put(
             shape,
             ring,
@@ -41,7 +41,7 @@ fn add_part(
             row::group_end(shape.slots, book.head),
         );
     }
-    ran.book
+    added
 }
 
 // Adds all counts, part by part. The first part that ends a group reads the fields from slot 0 on; behind it stands head, and the row has the sum up
@@ -57,15 +57,14 @@ pub(crate) fn add_all(
     ensures { (result ≡ added_all book counts.now) × (ring.new ≡ added_all_ring book ring.old counts.now) × (row.new ≡ added_all_row book ring.old row.old counts.now) }
 {
     let mut after = book;
-    let mut at = 0;
+    let mut left = counts;
     let mut from = 0;
-    while at < counts.len() {
-        let left = counts.len() - at;
+    while !left.is_empty() {
         let most = items_left(after, shape) as usize;
-        let part = if most < left { most } else { left };
-        after = add_part(after, shape, ring, row, &counts[at..at + part], from);
+        let (part, later) = left.split_at(most.min(left.len()));
+        after = add_part(after, shape, ring, row, part, from);
         from = after.head;
-        at += part;
+        left = later;
     }
     after
 }

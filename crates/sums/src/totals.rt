@@ -7,7 +7,7 @@ ghost use Rattle.book.specs.Figure.{slots_for, reckoned};
 ghost use Rattle.sums.specs.Row.{entries_of};
 ghost use Rattle.sums.specs.Rule.{fields_for, sums_for, figure_by_row};
 
-use crate::{Summed, rule};
+use crate::{RowTotal, rule};
 use book::Book;
 use book::shape::Shape;
 
@@ -20,8 +20,8 @@ fn slots_for(book: Book, shape: Shape, window: u64) -> u64
     (up as u32 / shape.block as u32) as u64
 }
 
-// The oldest of the j newest slots before head: where its run begins.
-fn oldest(slots: u64, head: u64, j: u64) -> u64
+// The oldest of the j newest slots before head: where their run begins.
+pub fn oldest(slots: u64, head: u64, j: u64) -> u64
     requires { (head < slots) × (j ≤ slots) }
     ensures { result ≡ newest slots head j }
 {
@@ -39,13 +39,13 @@ fn reckon(book: Book, sum: u64, e: u64, g: u64) -> u64
 {
     let whole = book.carry + book.tolerance * sum;
     let off = book.tolerance - 1 + e * book.bound * g;
-    rule::less(whole, off)
+    whole.saturating_sub(off)
 }
 
 // The figure of a window longer than the open block: the sum of its slots by the rule, and g by itself.
-pub(crate) fn by_row(book: Book, shape: Shape, ring: &[u8], row: &[u32], window: u64) -> Summed
+pub(crate) fn by_row(book: Book, shape: Shape, ring: &[u8], row: &[u32], window: u64) -> RowTotal
     requires { Usable book (length ring.now) × (shape ≡ shape_for book) × (entries_of book ≤ length row.now) × (book.phase < window) × (window ≤ book.kept) }
-    ensures { result ≡ record { refusal = 0; figure = figure_by_row book ring.now row.now window; fields = fields_for book window; sums = sums_for book window } }
+    ensures { result ≡ record { figure = figure_by_row book ring.now row.now window; fields = fields_for book window; sums = sums_for book window } }
 {
     let j = slots_for(book, shape, window);
     let newest = rule::read_newest(shape, ring, row, book.head, j);
@@ -55,9 +55,8 @@ pub(crate) fn by_row(book: Book, shape: Shape, ring: &[u8], row: &[u32], window:
         ring,
         oldest(shape.slots, book.head, j) as usize,
     )
-    .value;
-    Summed {
-        refusal: 0,
+    .unwrap();
+    RowTotal {
         figure: reckon(book, newest.sum, j * shape.block - (window - book.phase), g),
         fields: newest.fields + 1,
         sums: newest.sums,

@@ -7,7 +7,7 @@ use mathlib.Core.Path.{◌≡◌, sym, ap, ◌∙◌}
 use Rattle.refusals.specs.Call.{refusal_of, result_of, seen_as}
 use Rattle.refusals.proofs.Calls.{result_cases, same_result, seen_result}
 use Rattle.book.specs.declared.Book.{Book}
-use Rattle.book.specs.declared.Figures.{Figures}
+use Rattle.book.specs.Answers.{Figures}
 use Rattle.book.specs.Figure.{figure}
 use Rattle.book.specs.Calls.{total_call, two_totals_call}
 use Rattle.book.proofs.Promises.{total_known, two_totals_refusal, two_totals_given, two_totals_back}

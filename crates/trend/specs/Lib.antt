@@ -1,1 +1,2 @@
 pub mod Trend
+pub mod Told

@@ -6,12 +6,12 @@ use mathlib.Core.Path.{◌≡◌, refl}
 use lib.ListN.{take, drop}
 use Rattle.book.specs.declared.verdicts.Verdict.{Verdict}
 use Rattle.book.specs.declared.verdicts.Verdict.TheVariants.{Live, Frozen, Undecided, Resting}
-use Rattle.book.specs.declared.verdicts.Ruling.{Ruling}
-use Rattle.book.specs.declared.verdicts.Ruling.TheVariants.{Told, Refused}
+use Rattle.book.specs.Answers.{Ruling}
+use Rattle.book.specs.Answers.{Told, Refused}
 use Rattle.image.specs.Reading.{raster_in}
-use Rattle.page.specs.declared.Picture.{Picture}
-use Rattle.page.specs.declared.Picture.TheVariants.{Neither, Newest, Older}
-use Rattle.page.specs.declared.Choice.{Choice}
+use Rattle.page.specs.Answers.{Picture}
+use Rattle.page.specs.Answers.{Neither, Newest, Older}
+use Rattle.page.specs.Answers.{Choice}
 use Rattle.page.specs.Shown.{picture_number}
 use Rattle.uprzezar.specs.Crossing.{as_numbers, raster_place, verdict_in, shown_as, picture_at, choice_in}
 

@@ -3,14 +3,14 @@
 use Rattle.std.specs.Prelude.{ℕ, zero, suc, ◌-◌, List}
 use Rattle.book.specs.declared.verdicts.Verdict.{Verdict}
 use Rattle.book.specs.declared.verdicts.Verdict.TheVariants.{Live, Frozen, Undecided, Resting}
-use Rattle.book.specs.declared.verdicts.Ruling.{Ruling}
-use Rattle.book.specs.declared.verdicts.Ruling.TheVariants.{Told, Refused}
+use Rattle.book.specs.Answers.{Ruling}
+use Rattle.book.specs.Answers.{Told, Refused}
 use Rattle.book.specs.Verdict.{refusal_in, ruling_number, window_in, value_in}
-use Rattle.image.specs.declared.Numbers.{Numbers}
+use Rattle.image.specs.declared.told.Numbers.{Numbers}
 use Rattle.image.specs.Reading.{numbers_of}
-use Rattle.page.specs.declared.Picture.{Picture}
-use Rattle.page.specs.declared.Picture.TheVariants.{Neither, Newest, Older}
-use Rattle.page.specs.declared.Choice.{Choice}
+use Rattle.page.specs.Answers.{Picture}
+use Rattle.page.specs.Answers.{Neither, Newest, Older}
+use Rattle.page.specs.Answers.{Choice}
 use Rattle.page.specs.Shown.{picture_number}
 use Rattle.uprzezar.specs.declared.Ruled.{Ruled}
 use Rattle.uprzezar.specs.declared.Raster.{Raster}

@@ -1,71 +1,109 @@
 // Answers of the calls as C takes them: specs/Crossing.antt.
 ghost use Rattle.std.specs.Prelude.{◌≡◌};
-ghost use Rattle.book.specs.declared.verdicts.Ruling.TheVariants.{Told};
+ghost use Rattle.refusals.specs.Refused.{number_in};
+ghost use Rattle.book.specs.Record.{no_book_at_all};
+ghost use Rattle.book.specs.Told.{as_ruling};
+ghost use Rattle.book.specs.Verdict.{case_of};
 ghost use Rattle.page.specs.Shown.{picture_number};
+ghost use Rattle.page.specs.Told.{as_picture, as_choice};
 ghost use Rattle.uprzezar.specs.Crossing.{as_numbers, shown_as};
 
 use crate::{Ruled, Shown};
-use book::verdicts::{Notice, Ruling, Verdict};
+use book::Book;
+use book::verdicts::{Notice, Verdict};
 use page::{Choice, Picture};
+use refusals::Refusal;
 
-// An answer as numbers.
-pub(crate) fn as_numbers(ruling: Ruling) -> Ruled
-    ensures { result ≡ as_numbers ruling }
+// The number of the refusal, 0 for none.
+pub(crate) fn number(answer: Result<(), Refusal>) -> u8
+    ensures { result ≡ number_in answer }
 {
-    match ruling {
-        Ruling::Told(notice) => notice_as_numbers(notice),
-        Ruling::Refused(refusal) => Ruled {
-            refusal,
-            verdict: 0,
-            window: 0,
-            figure: 0,
-        },
+    match answer {
+        Ok(()) => 0,
+        Err(refusal) => refusal.number(),
     }
 }
 
-fn notice_as_numbers(notice: Notice) -> Ruled
-    ensures { result ≡ as_numbers (Told notice) }
+// The record of all zeros, which is handed back where an opening is refused.
+pub(crate) fn no_book() -> Book
+    ensures { result ≡ no_book_at_all }
 {
-    let verdict = notice.verdict;
+    Book {
+        bound: 0,
+        length: 0,
+        tolerance: 0,
+        carry: 0,
+        phase: 0,
+        kept: 0,
+        head: 0,
+        resting: 0,
+    }
+}
+
+// The number of a verdict, and its figure.
+fn case_of(verdict: Verdict) -> (u8, u64)
+    ensures { result ≡ case_of verdict }
+{
     match verdict {
-        Verdict::Live(figure) => told(1, notice.window, figure),
-        Verdict::Frozen(figure) => told(2, notice.window, figure),
-        Verdict::Undecided(figure) => told(3, notice.window, figure),
-        Verdict::Resting(figure) => told(4, notice.window, figure),
+        Verdict::Live(figure) => (1, figure),
+        Verdict::Frozen(figure) => (2, figure),
+        Verdict::Undecided(figure) => (3, figure),
+        Verdict::Resting(figure) => (4, figure),
     }
 }
 
-fn told(verdict: u8, window: u64, figure: u64) -> Ruled
-    ensures { result ≡ record { refusal = 0; verdict = verdict; window = window; figure = figure } }
-{
-    Ruled {
-        refusal: 0,
-        verdict,
-        window,
-        figure,
-    }
-}
+impl From<Result<Notice, Refusal>> for Ruled {
+    ghost from_gives = { λ answer told. told ≡ as_numbers (as_ruling answer) };
 
-// A choice as numbers.
-pub(crate) fn shown_as(choice: Choice) -> Shown
-    ensures { result ≡ shown_as choice }
-{
-    let picture = choice.picture;
-    Shown {
-        refusal: choice.refusal,
-        picture: picture_number(picture),
-        offset: choice.offset,
-        length: choice.length,
-        age: choice.age,
+    fn from(answer: Result<Notice, Refusal>) -> Ruled {
+        match answer {
+            Ok(notice) => {
+                let (verdict, figure) = case_of(notice.verdict);
+                Ruled {
+                    refusal: 0,
+                    verdict,
+                    window: notice.window,
+                    figure,
+                }
+            }
+            Err(refusal) => Ruled {
+                refusal: refusal.number(),
+                verdict: 0,
+                window: 0,
+                figure: 0,
+            },
+        }
     }
 }
 
 fn picture_number(picture: Picture) -> u8
-    ensures { result ≡ picture_number picture }
+    ensures { result ≡ picture_number (as_picture picture) }
 {
     match picture {
-        Picture::Neither => 0,
         Picture::Newest => 1,
         Picture::Older => 2,
+    }
+}
+
+impl From<Result<Choice, Refusal>> for Shown {
+    ghost from_gives = { λ answer told. told ≡ shown_as (as_choice answer) };
+
+    fn from(answer: Result<Choice, Refusal>) -> Shown {
+        match answer {
+            Ok(choice) => Shown {
+                refusal: 0,
+                picture: picture_number(choice.picture),
+                offset: choice.offset,
+                length: choice.length,
+                age: choice.age,
+            },
+            Err(refusal) => Shown {
+                refusal: refusal.number(),
+                picture: 0,
+                offset: 0,
+                length: 0,
+                age: 0,
+            },
+        }
     }
 }

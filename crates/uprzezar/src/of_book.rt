@@ -6,15 +6,16 @@ ghost use Rattle.book.specs.Shape.{shape_call};
 ghost use Rattle.uprzezar.specs.Crossing.{as_numbers};
 
 use crate::{Ruled, crossing};
+use book::Book;
 use book::shape::Shaped;
-use book::{Book, Figure, Ran, Updated, Window};
+use book::told::{Figure, Ran, Updated, Window};
 
 // The numbers of a book with a bound, a length and a tolerance, before it is opened.
 #[unsafe(no_mangle)]
 pub extern "C" fn uprzezar_shape(bound: u64, length: u64, tolerance: u64) -> Shaped
     ensures { result ≡ result_of (shape_call bound length tolerance) }
 {
-    book::shape::derive(bound, length, tolerance)
+    Shaped::from(book::shape::derive(bound, length, tolerance))
 }
 
 // Opens a book with a bound, a length and a tolerance, and clears the bytes that its ring takes.
@@ -22,7 +23,10 @@ pub extern "C" fn uprzezar_shape(bound: u64, length: u64, tolerance: u64) -> Sha
 pub extern "C" fn uprzezar_open(bound: u64, length: u64, tolerance: u64, ring: &mut [u8]) -> Updated
     ensures { (result ≡ result_of (open_call bound length tolerance ring.old)) × (ring.new ≡ left_of (open_call bound length tolerance ring.old)) }
 {
-    book::open(bound, length, tolerance, ring)
+    Updated::of(
+        crossing::no_book(),
+        book::open(bound, length, tolerance, ring),
+    )
 }
 
 // Adds one item to a book.
@@ -30,7 +34,7 @@ pub extern "C" fn uprzezar_open(bound: u64, length: u64, tolerance: u64, ring: &
 pub extern "C" fn uprzezar_add(book: Book, ring: &mut [u8], item: u64) -> Updated
     ensures { (result ≡ result_of (add_call book ring.old item)) × (ring.new ≡ left_of (add_call book ring.old item)) }
 {
-    book::add(book, ring, item)
+    Updated::of(book, book::add(book, ring, item))
 }
 
 // Adds a run of counts to a book, all of them or none.
@@ -38,7 +42,7 @@ pub extern "C" fn uprzezar_add(book: Book, ring: &mut [u8], item: u64) -> Update
 pub extern "C" fn uprzezar_run(book: Book, ring: &mut [u8], counts: &[u64]) -> Ran
     ensures { (result ≡ result_of (run_call book ring.old counts.now)) × (ring.new ≡ left_of (run_call book ring.old counts.now)) }
 {
-    book::run(book, ring, counts)
+    Ran::of(book, book::run(book, ring, counts))
 }
 
 // Puts a book to rest: gives the record with its mark set.
@@ -46,7 +50,7 @@ pub extern "C" fn uprzezar_run(book: Book, ring: &mut [u8], counts: &[u64]) -> R
 pub extern "C" fn uprzezar_rest(book: Book) -> Updated
     ensures { result ≡ result_of (rest_call book) }
 {
-    book::rest(book)
+    Updated::of(book, book::rest(book))
 }
 
 // Wakes a book: gives the record with its mark cleared.
@@ -54,7 +58,7 @@ pub extern "C" fn uprzezar_rest(book: Book) -> Updated
 pub extern "C" fn uprzezar_wake(book: Book) -> Updated
     ensures { result ≡ result_of (wake_call book) }
 {
-    book::wake(book)
+    Updated::of(book, book::wake(book))
 }
 
 // The figure for the last `window` items.
@@ -62,7 +66,7 @@ pub extern "C" fn uprzezar_wake(book: Book) -> Updated
 pub extern "C" fn uprzezar_total(book: Book, ring: &[u8], window: u64) -> Figure
     ensures { result ≡ result_of (total_call book ring.now window) }
 {
-    book::total(book, ring, window)
+    Figure::from(book::total(book, ring, window))
 }
 
 // The shortest window whose figure reaches an amount.
@@ -70,7 +74,7 @@ pub extern "C" fn uprzezar_total(book: Book, ring: &[u8], window: u64) -> Figure
 pub extern "C" fn uprzezar_far(book: Book, ring: &[u8], amount: u64) -> Window
     ensures { result ≡ result_of (how_far_call book ring.now amount) }
 {
-    book::how_far_back(book, ring, amount)
+    Window::from(book::how_far_back(book, ring, amount))
 }
 
 // The verdict for a window and an amount, as the page is told it.
@@ -78,5 +82,5 @@ pub extern "C" fn uprzezar_far(book: Book, ring: &[u8], amount: u64) -> Window
 pub extern "C" fn uprzezar_verdict(book: Book, ring: &[u8], window: u64, amount: u64) -> Ruled
     ensures { result ≡ as_numbers (result_of (verdict_call book ring.now window amount)) }
 {
-    crossing::as_numbers(book::verdict(book, ring, window, amount))
+    Ruled::from(book::verdict(book, ring, window, amount))
 }

@@ -4,7 +4,7 @@ ghost use Rattle.refusals.specs.Call.{result_of, left_of};
 ghost use Rattle.coarse.specs.Calls.{coarsen_call, coarsen_row_call};
 
 use book::Book;
-use coarse::Coarser;
+use coarse::told::Coarser;
 
 // Makes a book with `times` times the tolerance out of one, in a second ring; the first ring is only read.
 #[unsafe(no_mangle)]
@@ -16,7 +16,7 @@ pub extern "C" fn uprzezar_coarsen(
 ) -> Coarser
     ensures { (result ≡ result_of (coarsen_call book ring.now times second.old)) × (second.new ≡ left_of (coarsen_call book ring.now times second.old)) }
 {
-    coarse::coarsen(book, ring, times, second)
+    Coarser::of(book, coarse::coarsen(book, ring, times, second))
 }
 
 // The same, and fills a row of running sums for the second ring.
@@ -30,5 +30,5 @@ pub extern "C" fn uprzezar_coarsen_row(
 ) -> Coarser
     ensures { (result ≡ result_of (coarsen_row_call book ring.now times second.old row.old)) × (second.new ≡ (left_of (coarsen_row_call book ring.now times second.old row.old)).ring) × (row.new ≡ (left_of (coarsen_row_call book ring.now times second.old row.old)).row) }
 {
-    coarse::coarsen_row(book, ring, times, second, row)
+    Coarser::of(book, coarse::coarsen_row(book, ring, times, second, row))
 }

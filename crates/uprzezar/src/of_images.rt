@@ -6,15 +6,15 @@ ghost use Rattle.score.specs.Calls.{score_call};
 ghost use Rattle.score.specs.Masked.{masked_call};
 ghost use Rattle.uprzezar.specs.Crossing.{raster_place};
 
-use crate::{Raster, crossing};
-use image::Numbers;
+use crate::Raster;
+use image::told::Numbers;
 
 // The numbers of the image at the start of the bytes.
 #[unsafe(no_mangle)]
 pub extern "C" fn uprzezar_header(bytes: &[u8]) -> Numbers
     ensures { result ≡ numbers_of bytes.now }
 {
-    image::header(bytes)
+    Numbers::from(image::header(bytes))
 }
 
 // Where its raster lies, in bytes.
@@ -22,11 +22,17 @@ pub extern "C" fn uprzezar_header(bytes: &[u8]) -> Numbers
 pub extern "C" fn uprzezar_raster(bytes: &[u8]) -> Raster
     ensures { result ≡ raster_place bytes.now }
 {
-    let numbers = image::header(bytes);
-    Raster {
-        refusal: numbers.refusal,
-        offset: numbers.start,
-        length: numbers.used - numbers.start,
+    match image::header(bytes) {
+        Ok(layout) => Raster {
+            refusal: 0,
+            offset: layout.start,
+            length: layout.used - layout.start,
+        },
+        Err(refusal) => Raster {
+            refusal: refusal.number(),
+            offset: 0,
+            length: 0,
+        },
     }
 }
 
@@ -40,7 +46,7 @@ pub extern "C" fn uprzezar_score(
 ) -> score::Answer
     ensures { result ≡ result_of (score_call bound allowance first.now second.now) }
 {
-    score::score(bound, allowance, first, second)
+    score::Answer::from(score::score(bound, allowance, first, second))
 }
 
 // The score of two images under a mask: its black positions do not count.
@@ -54,5 +60,5 @@ pub extern "C" fn uprzezar_score_masked(
 ) -> score::Answer
     ensures { result ≡ result_of (masked_call bound allowance first.now second.now mask.now) }
 {
-    score::masked(bound, allowance, first, second, mask)
+    score::Answer::from(score::masked(bound, allowance, first, second, mask))
 }

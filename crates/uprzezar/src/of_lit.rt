@@ -11,7 +11,7 @@ use lit::Answer;
 pub extern "C" fn uprzezar_rank(row: &[u8], count: usize, i: usize) -> Answer
     ensures { result ≡ result_of (rank_call row.now count i) }
 {
-    lit::rank(row, count, i)
+    Answer::from(lit::rank(row, count, i))
 }
 
 // The place, from 1, of the k-th lit frame.
@@ -19,7 +19,7 @@ pub extern "C" fn uprzezar_rank(row: &[u8], count: usize, i: usize) -> Answer
 pub extern "C" fn uprzezar_select(row: &[u8], count: usize, k: usize) -> Answer
     ensures { result ≡ result_of (select_call row.now count k) }
 {
-    lit::select(row, count, k)
+    Answer::from(lit::select(row, count, k))
 }
 
 // The rank rounded down to a multiple of the step.
@@ -27,7 +27,7 @@ pub extern "C" fn uprzezar_select(row: &[u8], count: usize, k: usize) -> Answer
 pub extern "C" fn uprzezar_rank_coarse(row: &[u8], count: usize, step: usize, i: usize) -> Answer
     ensures { result ≡ result_of (coarse_rank_call row.now count step i) }
 {
-    lit::rank_coarse(row, count, step, i)
+    Answer::from(lit::rank_coarse(row, count, step, i))
 }
 
 // The place of the k-th lit frame where k is a multiple of the step; otherwise, with t the last such multiple before k, the place behind the t-th
@@ -36,7 +36,7 @@ pub extern "C" fn uprzezar_rank_coarse(row: &[u8], count: usize, step: usize, i:
 pub extern "C" fn uprzezar_select_coarse(row: &[u8], count: usize, step: usize, k: usize) -> Answer
     ensures { result ≡ result_of (coarse_select_call row.now count step k) }
 {
-    lit::select_coarse(row, count, step, k)
+    Answer::from(lit::select_coarse(row, count, step, k))
 }
 
 // The place of the k-th one in a byte, 1 to 8 from the top bit down; 0 for none.

@@ -4,7 +4,7 @@ ghost use Rattle.refusals.specs.Call.{result_of};
 ghost use Rattle.page.specs.Calls.{lent_by, show_call};
 ghost use Rattle.uprzezar.specs.Crossing.{shown_as};
 
-use crate::{Shown, crossing};
+use crate::Shown;
 use book::Book;
 use page::Ticks;
 
@@ -21,5 +21,5 @@ pub extern "C" fn uprzezar_show(
 ) -> Shown
     ensures { result ≡ shown_as (result_of (show_call book window amount (lent_by ring.entry newest.entry older.entry) ticks)) }
 {
-    crossing::shown_as(page::show(book, ring, window, amount, newest, older, ticks))
+    Shown::from(page::show(book, ring, window, amount, newest, older, ticks))
 }

@@ -3,12 +3,14 @@ ghost use Rattle.std.specs.Prelude.{◌≡◌};
 ghost use Rattle.refusals.specs.Call.{result_of, left_of};
 ghost use Rattle.ring.specs.Calls.{clear_call, read_call, write_call, sum_call};
 
+use crate::crossing;
+
 // Sets the first bytes of the ring, as many as it takes, to 0.
 #[unsafe(no_mangle)]
 pub extern "C" fn uprzezar_ring_clear(width: usize, slots: usize, ring: &mut [u8]) -> u8
     ensures { (result ≡ result_of (clear_call width slots ring.old)) × (ring.new ≡ left_of (clear_call width slots ring.old)) }
 {
-    ring::clear(width, slots, ring)
+    crossing::number(ring::clear(width, slots, ring))
 }
 
 // The number in a slot.
@@ -21,7 +23,7 @@ pub extern "C" fn uprzezar_ring_read(
 ) -> ring::Answer
     ensures { result ≡ result_of (read_call width slots ring.now slot) }
 {
-    ring::read(width, slots, ring, slot)
+    ring::Answer::from(ring::read(width, slots, ring, slot))
 }
 
 // Puts a value into a slot.
@@ -35,7 +37,7 @@ pub extern "C" fn uprzezar_ring_write(
 ) -> u8
     ensures { (result ≡ result_of (write_call width slots ring.old slot value)) × (ring.new ≡ left_of (write_call width slots ring.old slot value)) }
 {
-    ring::write(width, slots, ring, slot, value)
+    crossing::number(ring::write(width, slots, ring, slot, value))
 }
 
 // The sum of the j newest slots before the slot `next`.
@@ -49,5 +51,5 @@ pub extern "C" fn uprzezar_ring_sum(
 ) -> ring::Answer
     ensures { result ≡ result_of (sum_call width slots ring.now next j) }
 {
-    ring::sum(width, slots, ring, next, j)
+    ring::Answer::from(ring::sum(width, slots, ring, next, j))
 }

@@ -4,14 +4,14 @@ ghost use Rattle.refusals.specs.Call.{result_of, left_of};
 ghost use Rattle.salvage.specs.Calls.{salvage_call, salvage_row_call};
 
 use book::Book;
-use salvage::Salvaged;
+use salvage::told::Salvaged;
 
 // Salvages a ring. The numbers of the altered slots go into `numbers`, from slot head round to the newest.
 #[unsafe(no_mangle)]
 pub extern "C" fn uprzezar_salvage(book: Book, ring: &mut [u8], numbers: &mut [u32]) -> Salvaged
     ensures { (result ≡ result_of (salvage_call book ring.old numbers.old)) × (ring.new ≡ (left_of (salvage_call book ring.old numbers.old)).ring) × (numbers.new ≡ (left_of (salvage_call book ring.old numbers.old)).numbers) }
 {
-    salvage::salvage(book, ring, numbers)
+    Salvaged::of(book, salvage::salvage(book, ring, numbers))
 }
 
 // The same, and rebuilds the row of running sums.
@@ -24,5 +24,5 @@ pub extern "C" fn uprzezar_salvage_row(
 ) -> Salvaged
     ensures { (result ≡ result_of (salvage_row_call book ring.old numbers.old row.old)) × (ring.new ≡ (left_of (salvage_row_call book ring.old numbers.old row.old)).ring) × (numbers.new ≡ (left_of (salvage_row_call book ring.old numbers.old row.old)).numbers) × (row.new ≡ (left_of (salvage_row_call book ring.old numbers.old row.old)).row) }
 {
-    salvage::salvage_row(book, ring, numbers, row)
+    Salvaged::of(book, salvage::salvage_row(book, ring, numbers, row))
 }

@@ -3,8 +3,10 @@ ghost use Rattle.std.specs.Prelude.{◌≡◌};
 ghost use Rattle.refusals.specs.Call.{result_of, left_of};
 ghost use Rattle.sums.specs.Calls.{open_row_call, add_row_call, run_row_call, total_row_call};
 
-use book::{Book, Ran, Updated};
-use sums::Summed;
+use crate::crossing;
+use book::Book;
+use book::told::{Ran, Updated};
+use sums::told::Summed;
 
 // Opens a book, and clears the bytes that its ring takes and the entries of the row that it uses.
 #[unsafe(no_mangle)]
@@ -17,7 +19,10 @@ pub extern "C" fn uprzezar_open_row(
 ) -> Updated
     ensures { (result ≡ result_of (open_row_call bound length tolerance ring.old row.old)) × (ring.new ≡ (left_of (open_row_call bound length tolerance ring.old row.old)).ring) × (row.new ≡ (left_of (open_row_call bound length tolerance ring.old row.old)).row) }
 {
-    sums::open(bound, length, tolerance, ring, row)
+    Updated::of(
+        crossing::no_book(),
+        sums::open(bound, length, tolerance, ring, row),
+    )
 }
 
 // Adds one item to a book.
@@ -30,7 +35,7 @@ pub extern "C" fn uprzezar_add_row(
 ) -> Updated
     ensures { (result ≡ result_of (add_row_call book ring.old row.old item)) × (ring.new ≡ (left_of (add_row_call book ring.old row.old item)).ring) × (row.new ≡ (left_of (add_row_call book ring.old row.old item)).row) }
 {
-    sums::add(book, ring, row, item)
+    Updated::of(book, sums::add(book, ring, row, item))
 }
 
 // Adds a run of counts to a book, all of them or none.
@@ -43,7 +48,7 @@ pub extern "C" fn uprzezar_run_row(
 ) -> Ran
     ensures { (result ≡ result_of (run_row_call book ring.old row.old counts.now)) × (ring.new ≡ (left_of (run_row_call book ring.old row.old counts.now)).ring) × (row.new ≡ (left_of (run_row_call book ring.old row.old counts.now)).row) }
 {
-    sums::run(book, ring, row, counts)
+    Ran::of(book, sums::run(book, ring, row, counts))
 }
 
 // The figure for the last `window` items by the row, and how many fields and stored sums its rule reads.
@@ -51,5 +56,5 @@ pub extern "C" fn uprzezar_run_row(
 pub extern "C" fn uprzezar_total_row(book: Book, ring: &[u8], row: &[u32], window: u64) -> Summed
     ensures { result ≡ result_of (total_row_call book ring.now row.now window) }
 {
-    sums::total(book, ring, row, window)
+    Summed::from(sums::total(book, ring, row, window))
 }

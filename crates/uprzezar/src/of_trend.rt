@@ -11,5 +11,5 @@ use trend::Answer;
 pub extern "C" fn uprzezar_trend(book: Book, ring: &[u8], window: u64) -> Answer
     ensures { result ≡ result_of (trend_call book ring.now window) }
 {
-    trend::trend(book, ring, window)
+    Answer::from(trend::trend(book, ring, window))
 }

@@ -1,114 +1,54 @@
-// The calls on images. Each gives how many bytes its answer has, 0 if the line cannot be read.
-use crate::fields::{calls, same};
-use crate::reading::{byte_in, bytes_in, number_in};
+// The calls on images.
+use crate::reading::{Unanswered, bytes, number};
 use crate::text;
-use score::Answer;
+use crate::text::Answer;
+use image::told::Numbers;
+use std::alloc::Global;
 
-// Whether the raster has the very bytes that stand between two places.
-pub(crate) fn stands(raster: &[u8], s: &[u8], from: usize, end: usize) -> bool {
-    if from > end {
-        return false;
+// The image's numbers, and how long its raster is. Where the raster lies is told only if its own bytes stand there.
+pub(crate) fn pgm(alloc: Global, image: &str) -> Answer {
+    let image = bytes(alloc, image)?;
+    let told = Numbers::from(image::header(&image));
+    let raster = image::raster(&image);
+    if image.get(told.start..told.used) != Some(raster) {
+        return Err(Unanswered::Unreadable);
     }
-    if end > s.len() {
-        return false;
-    }
-    same(raster, &s[from..end])
+    Ok(format!(in alloc;
+        "{} {} {} {} {} {} {}",
+        told.refusal,
+        told.width,
+        told.height,
+        told.maxval,
+        told.used,
+        told.start,
+        raster.len()
+    )?)
 }
 
-// The raster's place is told by the header's numbers, and only if the raster's own bytes stand there.
-fn numbers(s: &[u8], out: &mut [u8]) -> usize {
-    let r = image::header(s);
-    let raster = image::raster(s);
-    if !stands(raster, s, r.start, r.used) {
-        return 0;
-    }
-    let zero = text::refusal(out, r.refusal);
-    let one = text::size(out, zero, r.width);
-    let two = text::size(out, one, r.height);
-    let three = text::size(out, two, r.maxval);
-    let four = text::size(out, three, r.used);
-    let five = text::size(out, four, r.start);
-    text::size(out, five, raster.len())
+pub(crate) fn score(
+    alloc: Global,
+    bound: &str,
+    allowance: &str,
+    first: &str,
+    second: &str,
+) -> Answer {
+    let first = bytes(alloc, first)?;
+    let second = bytes(alloc, second)?;
+    let answer = score::score(number(bound)?, number(allowance)?, &first, &second);
+    text::refusal_and_number(alloc, answer)
 }
 
-// The refusal and the score.
-fn told(r: Answer, out: &mut [u8]) -> usize {
-    let at = text::refusal(out, r.refusal);
-    text::next(out, at, r.value)
-}
-
-// Behind the images comes a mask.
-fn under_mask(
-    line: &[u8],
-    bound: u64,
-    allowance: u8,
-    first: &[u8],
-    second: &[u8],
-    out: &mut [u8],
-) -> usize {
-    let mut mask = [0u8; 32768];
-    let taken = bytes_in(line, 5, &mut mask);
-    let n = taken.size;
-    if taken.ok {
-        let r = score::masked(bound, allowance, first, second, &mask[..n]);
-        return told(r, out);
-    }
-    0
-}
-
-fn compared(
-    line: &[u8],
-    bound: u64,
-    allowance: u8,
-    first: &[u8],
-    second: &[u8],
-    out: &mut [u8],
-) -> usize {
-    if calls(line, b"score_mask", 5) {
-        return under_mask(line, bound, allowance, first, second, out);
-    }
-    told(score::score(bound, allowance, first, second), out)
-}
-
-fn pgm(line: &[u8], slice: &mut [u8], out: &mut [u8]) -> usize {
-    let taken = bytes_in(line, 1, slice);
-    let n = taken.size;
-    if taken.ok {
-        return numbers(&slice[..n], out);
-    }
-    0
-}
-
-// A score, with a mask or without. The allowance is a byte: a line with a larger number cannot be read.
-fn score_of(line: &[u8], first: &mut [u8], second: &mut [u8], out: &mut [u8]) -> usize {
-    let bound = number_in(line, 1);
-    let allowance = byte_in(line, 2);
-    let one = bytes_in(line, 3, first);
-    let two = bytes_in(line, 4, second);
-    let m = one.size;
-    let n = two.size;
-    if bound.ok && allowance.ok && one.ok && two.ok {
-        return compared(
-            line,
-            bound.value,
-            allowance.value,
-            &first[..m],
-            &second[..n],
-            out,
-        );
-    }
-    0
-}
-
-pub(crate) fn answer(line: &[u8], first: &mut [u8], second: &mut [u8], out: &mut [u8]) -> usize {
-    if calls(line, b"pgm", 1) {
-        return pgm(line, first, out);
-    }
-    if calls(line, b"score", 4) {
-        return score_of(line, first, second, out);
-    }
-    if calls(line, b"score_mask", 5) {
-        return score_of(line, first, second, out);
-    }
-    0
+pub(crate) fn masked(
+    alloc: Global,
+    bound: &str,
+    allowance: &str,
+    first: &str,
+    second: &str,
+    mask: &str,
+) -> Answer {
+    let first = bytes(alloc, first)?;
+    let second = bytes(alloc, second)?;
+    let mask = bytes(alloc, mask)?;
+    let answer = score::masked(number(bound)?, number(allowance)?, &first, &second, &mask);
+    text::refusal_and_number(alloc, answer)
 }

@@ -1,79 +1,43 @@
-// The calls on lit frames. Each gives how many bytes its answer has, 0 if the line cannot be read.
-ghost use Rattle.vectors.specs.Counts.{IsPrefixLen};
-
-use crate::fields::calls;
-use crate::reading::{byte_in, bytes_in, native, number_in, number_or_0};
+// The calls on lit frames.
+use crate::reading::{bytes, number};
 use crate::text;
-use lit::Answer;
+use crate::text::Answer;
+use refusals::Refusal;
+use std::alloc::Global;
 
-// What the four calls on a row are handed: `bytes length`, then one or two numbers. The bytes lie at the start of the lent slice.
-#[derive(Clone, Copy)]
-struct Asked {
-    ok: bool,
-    bytes: usize,
-    length: usize,
-    third: usize,
-    fourth: usize,
-}
-
-fn arguments(line: &[u8], row: &mut [u8]) -> Asked
-    ensures { IsPrefixLen result.bytes row.new }
+// `row length`, and what the call asks for.
+pub(crate) fn ask<F: FnOnce(&[u8], usize, usize) -> Result<usize, Refusal>>(
+    alloc: Global,
+    row: &str,
+    length: &str,
+    asked: &str,
+    call: F,
+) -> Answer
+    requires { F.IsAlwaysCallable call }
 {
-    let frames = number_in(line, 2);
-    let third = number_in(line, 3);
-    let fourth = number_or_0(line, 4);
-    let taken = bytes_in(line, 1, row);
-    Asked {
-        ok: frames.ok && third.ok && fourth.ok && taken.ok,
-        bytes: taken.size,
-        length: native(frames.value),
-        third: native(third.value),
-        fourth: native(fourth.value),
-    }
+    let row = bytes(alloc, row)?;
+    let answer = call(&row, number(length)?, number(asked)?);
+    text::refusal_and_number(alloc, answer)
 }
 
-// The refusal and the number.
-fn told(r: Answer, out: &mut [u8]) -> usize {
-    let at = text::refusal(out, r.refusal);
-    text::size(out, at, r.value)
+// `row length step`, and what the call asks for.
+pub(crate) fn ask_by_step<F: FnOnce(&[u8], usize, usize, usize) -> Result<usize, Refusal>>(
+    alloc: Global,
+    row: &str,
+    length: &str,
+    step: &str,
+    asked: &str,
+    call: F,
+) -> Answer
+    requires { F.IsAlwaysCallable call }
+{
+    let row = bytes(alloc, row)?;
+    let answer = call(&row, number(length)?, number(step)?, number(asked)?);
+    text::refusal_and_number(alloc, answer)
 }
 
-fn called(line: &[u8], q: Asked, row: &[u8], out: &mut [u8]) -> usize {
-    if calls(line, b"rank", 3) {
-        return told(lit::rank(row, q.length, q.third), out);
-    }
-    if calls(line, b"select", 3) {
-        return told(lit::select(row, q.length, q.third), out);
-    }
-    if calls(line, b"rank_coarse", 4) {
-        return told(lit::rank_coarse(row, q.length, q.third, q.fourth), out);
-    }
-    if calls(line, b"select_coarse", 4) {
-        return told(lit::select_coarse(row, q.length, q.third, q.fourth), out);
-    }
-    0
-}
-
-// `byte k`. The byte comes as a number, and is never refused.
-fn in_byte(line: &[u8], out: &mut [u8]) -> usize {
-    let byte = byte_in(line, 1);
-    let k = number_in(line, 2);
-    if byte.ok && k.ok {
-        let place = lit::in_byte(byte.value, native(k.value));
-        let at = text::refusal(out, 0);
-        return text::next(out, at, place as u64);
-    }
-    0
-}
-
-pub(crate) fn answer(line: &[u8], row: &mut [u8], out: &mut [u8]) -> usize {
-    if calls(line, b"in_byte", 2) {
-        return in_byte(line, out);
-    }
-    let q = arguments(line, row);
-    let n = q.bytes;
-    if q.ok {
-        return called(line, q, &row[..n], out);
-    }
-    0
+// The byte comes as a number, and is never refused.
+pub(crate) fn in_byte(alloc: Global, byte: &str, k: &str) -> Answer {
+    let place = lit::in_byte(number(byte)?, number(k)?);
+    text::refusal_and_number(alloc, Ok(place))
 }

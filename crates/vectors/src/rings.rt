@@ -1,84 +1,57 @@
-// The ring's own calls. Each gives how many bytes its answer has, 0 if the line cannot be read.
-ghost use Rattle.vectors.specs.Counts.{IsPrefixLen};
-
-use crate::fields::calls;
-use crate::reading::{bytes_in, native, number_in, number_or_0};
+// The ring's own calls, `width slots ring` and up to two numbers.
+use crate::reading::{bytes, number};
 use crate::text;
+use crate::text::{Answer, Hex};
+use std::alloc::Global;
 
-// What the four calls are handed: `width slots ring`, then no, one or two numbers. The ring lies at the start of the lent slice.
-#[derive(Clone, Copy)]
-struct Asked {
-    ok: bool,
-    width: usize,
-    slots: usize,
-    bytes: usize,
-    fourth: u64,
-    fifth: u64,
+// The refusal and the ring.
+pub(crate) fn clear(alloc: Global, width: &str, slots: &str, ring: &str) -> Answer {
+    let mut ring = bytes(alloc, ring)?;
+    let answer = ring::clear(number(width)?, number(slots)?, &mut ring);
+    Ok(format!(in alloc; "{} {}", text::refusal(answer), Hex(&ring))?)
 }
 
-fn arguments(line: &[u8], ring: &mut [u8]) -> Asked
-    ensures { IsPrefixLen result.bytes ring.new }
-{
-    let width = number_in(line, 1);
-    let slots = number_in(line, 2);
-    let fourth = number_or_0(line, 4);
-    let fifth = number_or_0(line, 5);
-    let taken = bytes_in(line, 3, ring);
-    Asked {
-        ok: width.ok && slots.ok && fourth.ok && fifth.ok && taken.ok,
-        width: native(width.value),
-        slots: native(slots.value),
-        bytes: taken.size,
-        fourth: fourth.value,
-        fifth: fifth.value,
-    }
+pub(crate) fn read(alloc: Global, width: &str, slots: &str, ring: &str, slot: &str) -> Answer {
+    let ring = bytes(alloc, ring)?;
+    let answer = ring::read(number(width)?, number(slots)?, &ring, number(slot)?);
+    text::refusal_and_number(alloc, answer)
 }
 
-fn clear(q: Asked, ring: &mut [u8], out: &mut [u8]) -> usize {
-    let refusal = ring::clear(q.width, q.slots, ring);
-    let at = text::refusal(out, refusal);
-    text::bytes(out, at, ring)
+// The refusal and the ring.
+pub(crate) fn write(
+    alloc: Global,
+    width: &str,
+    slots: &str,
+    ring: &str,
+    slot: &str,
+    value: &str,
+) -> Answer {
+    let mut ring = bytes(alloc, ring)?;
+    let answer = ring::write(
+        number(width)?,
+        number(slots)?,
+        &mut ring,
+        number(slot)?,
+        number(value)?,
+    );
+    Ok(format!(in alloc; "{} {}", text::refusal(answer), Hex(&ring))?)
 }
 
-fn read(q: Asked, ring: &[u8], out: &mut [u8]) -> usize {
-    let r = ring::read(q.width, q.slots, ring, native(q.fourth));
-    let at = text::refusal(out, r.refusal);
-    text::next(out, at, r.value)
-}
-
-fn write(q: Asked, ring: &mut [u8], out: &mut [u8]) -> usize {
-    let refusal = ring::write(q.width, q.slots, ring, native(q.fourth), q.fifth);
-    let at = text::refusal(out, refusal);
-    text::bytes(out, at, ring)
-}
-
-fn sum(q: Asked, ring: &[u8], out: &mut [u8]) -> usize {
-    let r = ring::sum(q.width, q.slots, ring, native(q.fourth), native(q.fifth));
-    let at = text::refusal(out, r.refusal);
-    text::next(out, at, r.value)
-}
-
-fn called(line: &[u8], q: Asked, ring: &mut [u8], out: &mut [u8]) -> usize {
-    if calls(line, b"ring_clear", 3) {
-        return clear(q, ring, out);
-    }
-    if calls(line, b"ring_read", 4) {
-        return read(q, ring, out);
-    }
-    if calls(line, b"ring_write", 5) {
-        return write(q, ring, out);
-    }
-    if calls(line, b"ring_sum", 5) {
-        return sum(q, ring, out);
-    }
-    0
-}
-
-pub(crate) fn answer(line: &[u8], ring: &mut [u8], out: &mut [u8]) -> usize {
-    let q = arguments(line, ring);
-    let n = q.bytes;
-    if q.ok {
-        return called(line, q, &mut ring[..n], out);
-    }
-    0
+pub(crate) fn sum(
+    alloc: Global,
+    width: &str,
+    slots: &str,
+    ring: &str,
+    next: &str,
+    j: &str,
+) -> Answer {
+    let ring = bytes(alloc, ring)?;
+    let answer = ring::sum(
+        number(width)?,
+        number(slots)?,
+        &ring,
+        number(next)?,
+        number(j)?,
+    );
+    text::refusal_and_number(alloc, answer)
 }

@@ -1,172 +1,89 @@
-// Text put into a slice from a place on. Each function gives the place behind what it put. Where the slice ends, nothing more is
-// put; the slice of main is longer than any answer.
-ghost use Rattle.std.specs.Prelude.{◌≤◌};
-
+// How records, bytes, rows and refusals are written.
+use crate::reading::Unanswered;
 use book::Book;
+use refusals::Refusal;
+use std::alloc::Global;
+use std::fmt;
+use std::fmt::{Display, Write};
 
-pub(crate) fn byte(out: &mut [u8], at: usize, value: u8) -> usize {
-    if at < out.len() {
-        out[at] = value;
-        return at + 1;
+// The answer to a line, or why it has none.
+pub(crate) type Answer = Result<String, Unanswered>;
+
+// A record `L,n,D,R,p,kept,head,mark`.
+#[derive(Clone, Copy)]
+pub(crate) struct Record(pub Book);
+
+impl Display for Record {
+    fn fmt<W: fmt::Write>(&self, f: &mut fmt::Formatter<W>) -> fmt::Result {
+        let b = self.0;
+        write!(f, "{},{},{},{}", b.bound, b.length, b.tolerance, b.carry)?;
+        write!(f, ",{},{},{},{}", b.phase, b.kept, b.head, b.resting)
     }
-    at
 }
 
-fn digit(nibble: u8) -> u8 {
-    if nibble < 10 {
-        return b'0' + nibble;
+// Bytes as hex, `-` for none.
+#[derive(Clone, Copy)]
+pub(crate) struct Hex<'a>(pub &'a [u8]);
+
+impl Display for Hex<'_> {
+    fn fmt<W: fmt::Write>(&self, f: &mut fmt::Formatter<W>) -> fmt::Result {
+        if self.0.is_empty() {
+            return write!(f, "-");
+        }
+        for byte in self.0 {
+            write!(f, "{byte:02x}")?;
+        }
+        Ok(())
     }
-    if nibble < 16 {
-        return b'a' + (nibble - 10);
+}
+
+// Items with a separator between them, `-` for none.
+#[derive(Clone, Copy)]
+pub(crate) struct List<'a, T> {
+    pub items: &'a [T],
+    pub separator: char,
+}
+
+impl<T: Display> Display for List<'_, T> {
+    fn fmt<W: fmt::Write>(&self, f: &mut fmt::Formatter<W>) -> fmt::Result {
+        let Some((first, others)) = self.items.split_first() else {
+            return write!(f, "-");
+        };
+        write!(f, "{first}")?;
+        let separator = self.separator;
+        for item in others {
+            write!(f, "{separator}{item}")?;
+        }
+        Ok(())
     }
-    b'?'
 }
 
-// A byte as it is, or as two hex digits.
-fn written(out: &mut [u8], at: usize, value: u8, hex: bool) -> usize {
-    if hex {
-        let half = byte(out, at, digit(value / 16));
-        return byte(out, half, digit(value % 16));
+// A row of numbers.
+fn row(numbers: &[u32]) -> List<'_, u32> {
+    List {
+        items: numbers,
+        separator: ',',
     }
-    byte(out, at, value)
 }
 
-// Each byte in turn.
-fn each(out: &mut [u8], from: usize, s: &[u8], hex: bool) -> usize {
-    let mut at = from;
-    let mut i = 0;
-    while i < s.len() {
-        at = written(out, at, s[i], hex);
-        i += 1;
+// A text, and a row of numbers behind it.
+pub(crate) fn with_row(mut text: String, numbers: &[u32]) -> Answer {
+    write!(text, " {}", row(numbers))?;
+    Ok(text)
+}
+
+// The number of a refusal, 0 for none.
+pub(crate) fn refusal(answer: Result<(), Refusal>) -> u8 {
+    answer.err().map_or(0, Refusal::number)
+}
+
+// The refusal and a number, which is 0 at a refusal.
+pub(crate) fn refusal_and_number<N: Display + Drop>(
+    alloc: Global,
+    answer: Result<N, Refusal>,
+) -> Answer {
+    match answer {
+        Ok(number) => Ok(format!(in alloc; "0 {number}")?),
+        Err(refusal) => Ok(format!(in alloc; "{} 0", refusal.number())?),
     }
-    at
-}
-
-pub(crate) fn word(out: &mut [u8], at: usize, word: &[u8]) -> usize {
-    each(out, at, word, false)
-}
-
-// A number: the digits of its tenth, and then its last one.
-pub(crate) fn decimal(out: &mut [u8], at: usize, n: u64) -> usize {
-    if n < 10 {
-        return byte(out, at, digit(n as u8));
-    }
-    let behind = decimal(out, at, n / 10);
-    byte(out, behind, digit((n % 10) as u8))
-}
-
-// A number behind a space.
-pub(crate) fn next(out: &mut [u8], at: usize, n: u64) -> usize {
-    let behind = byte(out, at, b' ');
-    decimal(out, behind, n)
-}
-
-// A number of the machine's own size behind a space.
-pub(crate) fn size(out: &mut [u8], at: usize, n: usize) -> usize {
-    next(out, at, n as u64)
-}
-
-// How far a number is from 0. One below 0 is counted from -1 on, since the least one has no counterpart above 0.
-fn magnitude(n: i64) -> u64 {
-    if n < 0 {
-        return (-1 - n) as u64 + 1;
-    }
-    n as u64
-}
-
-// A number that may be below 0, behind a space.
-pub(crate) fn signed(out: &mut [u8], at: usize, n: i64) -> usize {
-    let size = magnitude(n);
-    if n < 0 {
-        let behind = word(out, at, b" -");
-        return decimal(out, behind, size);
-    }
-    next(out, at, size)
-}
-
-// A number behind a comma.
-fn listed(out: &mut [u8], at: usize, n: u64) -> usize {
-    let behind = byte(out, at, b',');
-    decimal(out, behind, n)
-}
-
-pub(crate) fn refusal(out: &mut [u8], number: u8) -> usize {
-    decimal(out, 0, number as u64)
-}
-
-// A record behind a byte.
-fn record_behind(out: &mut [u8], at: usize, mark: u8, b: Book) -> usize {
-    let zero = byte(out, at, mark);
-    let one = decimal(out, zero, b.bound);
-    let two = listed(out, one, b.length);
-    let three = listed(out, two, b.tolerance);
-    let four = listed(out, three, b.carry);
-    let five = listed(out, four, b.phase);
-    let six = listed(out, five, b.kept);
-    let seven = listed(out, six, b.head);
-    listed(out, seven, b.resting)
-}
-
-// A record behind a space.
-pub(crate) fn record(out: &mut [u8], at: usize, b: Book) -> usize {
-    record_behind(out, at, b' ', b)
-}
-
-// The records at an array's start but for the first, each behind a semicolon.
-fn other_records(out: &mut [u8], from: usize, zones: [Book; 97], used: usize) -> usize
-    requires { used ≤ 97 }
-{
-    let mut at = from;
-    let mut i = 1;
-    while i < used {
-        let b = zones[i];
-        at = record_behind(out, at, b';', b);
-        i += 1;
-    }
-    at
-}
-
-// The records at an array's start joined by semicolons behind a space, `-` for none.
-pub(crate) fn records(out: &mut [u8], at: usize, zones: [Book; 97], used: usize) -> usize
-    requires { used ≤ 97 }
-{
-    if used == 0 {
-        return word(out, at, b" -");
-    }
-    let first = zones[0];
-    let behind = record(out, at, first);
-    other_records(out, behind, zones, used)
-}
-
-// Bytes as hex behind a space, `-` for none.
-pub(crate) fn bytes(out: &mut [u8], at: usize, s: &[u8]) -> usize {
-    let behind = byte(out, at, b' ');
-    if s.len() == 0 {
-        return byte(out, behind, b'-');
-    }
-    each(out, behind, s, true)
-}
-
-fn wide(n: u32) -> u64 {
-    n as u64
-}
-
-// The numbers of a row but for the first, each behind a comma.
-fn others(out: &mut [u8], from: usize, s: &[u32]) -> usize {
-    let mut at = from;
-    let mut i = 1;
-    while i < s.len() {
-        at = listed(out, at, wide(s[i]));
-        i += 1;
-    }
-    at
-}
-
-// A row of numbers joined by commas behind a space, `-` for none.
-pub(crate) fn row(out: &mut [u8], at: usize, s: &[u32]) -> usize {
-    if s.len() == 0 {
-        return word(out, at, b" -");
-    }
-    let behind = next(out, at, wide(s[0]));
-    others(out, behind, s)
 }

@@ -1,5 +1,6 @@
 -- An outcome in its cases, as the code reaches them.
 -- Assumes nothing.
+use Rattle.std.specs.Prelude.{Option, None, Some}
 use Prim.Native.Nat.{ℕ}
 use mathlib.Core.Bool.{Bool, true, false, not, cond, ◌&&◌}
 use mathlib.Core.List.{List}
@@ -12,19 +13,19 @@ use Rattle.refusals.specs.Call.{refusal_of, result_of, left_of}
 use Rattle.refusals.proofs.Laws.{refused_keeps}
 use Rattle.refusals.proofs.Calls.{left_refused}
 use Rattle.book.specs.declared.Book.{Book}
-use Rattle.book.specs.declared.Updated.{Updated}
-use Rattle.book.specs.Calls.{add_call}
+use Rattle.book.specs.declared.told.Figure.{Figure}
+use Rattle.book.specs.declared.told.Updated.{Updated}
+use Rattle.book.specs.Calls.{add_call, total_call, verdict_call}
+use Rattle.rows.specs.declared.Word.{Word}
 use Rattle.book.proofs.Promises.{add_back, add_gives}
-use Rattle.image.specs.declared.Numbers.{Numbers}
+use Rattle.image.specs.declared.told.Numbers.{Numbers}
 use Rattle.image.specs.Reading.{numbers_of}
 use Rattle.score.specs.declared.Answer.{Answer}
 use Rattle.score.specs.Calls.{score_call}
-use Rattle.rows.specs.declared.Scored.TheVariants.{First, By}
+use Rattle.watch.specs.Answers.{Turn, Row, Refused, Ends, Wait}
 use Rattle.watch.specs.declared.State.{State}
-use Rattle.watch.specs.declared.Turn.{Turn}
-use Rattle.watch.specs.declared.Turn.TheVariants.{Ends, Wait}
 use Rattle.watch.specs.Setting as setting
-use Rattle.watch.specs.Turn.{Outcome, refused_turn, shown_of, counted_of, decided_of, outcome_of}
+use Rattle.watch.specs.Turn.{word_of, frame_after, Outcome, refused_turn, shown_of, counted_of, decided_of, outcome_of}
 
 -- a turn that leaves this ring
 abbrev pub leaving : List ℕ → Turn → Outcome
@@ -44,6 +45,25 @@ module _ (book : Book) (ring : List ℕ) (item : ℕ) where
 
   pub refused_item_leaves : ((result_of (add_call book ring item)).refusal ≡ 0 → ⊥) → left_of (add_call book ring item) ≡ ring
   refused_item_leaves ne = untaken_leaves (λ e. ne (ap (λ (u : Updated). u.refusal) (add_gives book ring item e).0))
+
+-- an image that is not refused is not cut
+pub not_cut : (over : Bool) → (not over && eqb 0 ends_too_early) ≡ false
+not_cut true = refl
+not_cut false = refl
+
+-- a total that is refused, and a row that is shown
+module _ (state : State) (ring : List ℕ) (score : Option ℕ) (used : ℕ) {total : Figure}
+    (asked : total ≡ result_of (total_call state.book ring state.book.kept)) where
+  pub shown_refused : (total.refusal ≡ 0 → ⊥) → Refused total.refusal ≡ shown_of state ring score used
+  unfolding shown_of
+  shown_refused ne = rw (sym asked) (sym (refused_keeps total.refusal _ (Refused total.refusal) refl ne))
+
+  pub shown_row : total.refusal ≡ 0 → {frames : ℕ} → frames ≡ frame_after state.frames
+      → {word : Word} → word ≡ word_of (result_of (verdict_call state.book ring setting.window setting.amount))
+      → Row (record { state = record { book = state.book; frames = frames }; used = used; score = score; total = total.figure; word = word })
+      ≡ shown_of state ring score used
+  unfolding shown_of
+  shown_row taken counted said = rw (sym asked, taken, counted, said)
 
 module _ (state : State) (ring last rest : List ℕ) where
   module _ (over : Bool) where
@@ -72,11 +92,11 @@ module _ (state : State) (ring last rest : List ℕ) where
     unfolding decided_of
     decided_refused ne =
         rw (sym read) (sym (refused_keeps n.refusal
-        (cond (eqb state.frames 0) (leaving ring (shown_of state ring First n.used)) (counted_of state ring last (take n.used rest)))
+        (cond (eqb state.frames 0) (leaving ring (shown_of state ring None n.used)) (counted_of state ring last (take n.used rest)))
         (refused_turn ring n.refusal) refl ne))
 
     pub decided_first : n.refusal ≡ 0 → state.frames ≡ 0
-        → leaving ring (shown_of state ring First n.used) ≡ decided_of state ring last rest
+        → leaving ring (shown_of state ring None n.used) ≡ decided_of state ring last rest
     unfolding decided_of
     decided_first e0 first = rw (sym read, e0, eq-eqb state.frames 0 first)
 
@@ -100,7 +120,7 @@ module _ (state : State) (ring last image : List ℕ) {score : Answer}
         rw (sym scored, taken, sym adds) (sym (refused_keeps added.refusal _ (refused_turn ring added.refusal) refl ne))
 
     pub counted_added : added.refusal ≡ 0 → {left : List ℕ} → left ≡ left_of (add_call state.book ring score.value)
-        → leaving left (shown_of (record { book = added.book; frames = state.frames }) left (By score.value) (length image))
+        → leaving left (shown_of (record { book = added.book; frames = state.frames }) left (Some score.value) (length image))
         ≡ counted_of state ring last image
     unfolding counted_of
     counted_added none left_is = rw (left_is, sym scored, taken, sym adds, none)

@@ -1,6 +1,7 @@
 -- What holds in each case of an outcome holds of the outcome: it waits, or the input is at its end, or the image decides; an image is refused,
 -- or is the first, or is counted; a score or an item is refused, or goes into the book; a total is refused, or a row is shown.
 -- Assumes nothing.
+use Rattle.std.specs.Prelude.{Option, None, Some}
 use Prim.Native.Nat.{ℕ, zero, suc}
 use native.Mathlib.Decide.{ℕ_discrete}
 use native.Mathlib.Omega.{arith}
@@ -13,27 +14,24 @@ use lib.ListN.{length, take}
 use Rattle.refusals.specs.Numbers.{ends_too_early}
 use Rattle.refusals.specs.First.{unless_refused}
 use Rattle.refusals.specs.Call.{result_of, left_of}
-use Rattle.book.specs.declared.Figure.{Figure}
-use Rattle.book.specs.declared.Updated.{Updated}
+use Rattle.book.specs.declared.told.Figure.{Figure}
+use Rattle.book.specs.declared.told.Updated.{Updated}
 use Rattle.book.specs.Calls.{add_call, total_call, verdict_call}
 use Rattle.image.specs.Reading.{numbers_of}
 use Rattle.score.specs.declared.Answer.{Answer}
 use Rattle.score.specs.Calls.{score_call}
-use Rattle.rows.specs.declared.Scored.{Scored}
-use Rattle.rows.specs.declared.Scored.TheVariants.{First, By}
+use Rattle.watch.specs.Answers.{Turn, Row, Refused, Ends, Wait}
 use Rattle.watch.specs.declared.State.{State}
 use Rattle.watch.specs.declared.Line.{Line}
-use Rattle.watch.specs.declared.Turn.{Turn}
-use Rattle.watch.specs.declared.Turn.TheVariants.{Row, Refused, Ends, Wait}
 use Rattle.watch.specs.Setting as setting
 use Rattle.watch.specs.Turn.{word_of, frame_after, Outcome, refused_turn, shown_of, counted_of, decided_of, outcome_of}
 use Rattle.watch.proofs.Deciding.{leaving, none_over, none_yet, short_waits, decides, decided_refused, decided_first, decided_counted, counted_unscored, counted_refused, counted_added}
 
 true_or_false : true ≡ false → ⊥
-true_or_false e = let z : ◌≡◌ {A = ℕ} 0 1 = cc in omega arith
+true_or_false e = cc
 
 -- A TOTAL is refused, or a row is shown
-module _ (state : State) (ring : List ℕ) (scored : Scored) (used : ℕ) where
+module _ (state : State) (ring : List ℕ) (scored : Option ℕ) (used : ℕ) where
   abbrev total : Figure
   total = result_of (total_call state.book ring state.book.kept)
 
@@ -43,7 +41,7 @@ module _ (state : State) (ring : List ℕ) (scored : Scored) (used : ℕ) where
       record {
         state = record { book = state.book; frames = frame_after state.frames };
         used = used;
-        scored = scored;
+        score = scored;
         total = total.figure;
         word = word_of (result_of (verdict_call state.book ring setting.window setting.amount));
       }
@@ -78,7 +76,7 @@ module _ (state : State) (ring last image : List ℕ) where
   pub counted_cases : (P : Outcome → Type 0) → ((score.refusal ≡ 0 → ⊥) → P (refused_turn ring score.refusal))
       → ((added_of.refusal ≡ 0 → ⊥) → P (refused_turn ring added_of.refusal))
       → (score.refusal ≡ 0 → added_of.refusal ≡ 0
-      → P (leaving added_left (shown_of added_state added_left (By score.value) (length image))))
+      → P (leaving added_left (shown_of added_state added_left (Some score.value) (length image))))
       → P (counted_of state ring last image)
   counted_cases P unscored refused added = by (ℕ_discrete score.refusal 0) (ℕ_discrete added_of.refusal 0)
     where
@@ -90,7 +88,7 @@ module _ (state : State) (ring last image : List ℕ) where
 module _ (state : State) (ring last rest : List ℕ) where
   -- AN IMAGE is refused, or is the first, or is counted
   pub decided_cases : (P : Outcome → Type 0) → (((numbers_of rest).refusal ≡ 0 → ⊥) → P (refused_turn ring (numbers_of rest).refusal))
-      → ((numbers_of rest).refusal ≡ 0 → state.frames ≡ 0 → P (leaving ring (shown_of state ring First (numbers_of rest).used)))
+      → ((numbers_of rest).refusal ≡ 0 → state.frames ≡ 0 → P (leaving ring (shown_of state ring None (numbers_of rest).used)))
       → ((numbers_of rest).refusal ≡ 0 → (state.frames ≡ 0 → ⊥) → P (counted_of state ring last (take (numbers_of rest).used rest)))
       → P (decided_of state ring last rest)
   decided_cases P refused first later = by (ℕ_discrete (numbers_of rest).refusal 0) (ℕ_discrete state.frames 0)

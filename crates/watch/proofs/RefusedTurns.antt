@@ -1,22 +1,20 @@
 -- A refused turn leaves the ring as it was, in every state; and in a run it is refused with one of 11 to 16: an image is refused, or the
 -- two images differ, and the book refuses nothing.
 -- Assumes nothing.
+use Rattle.std.specs.Prelude.{Option}
 use Prim.Native.Nat.{ℕ, zero, suc, ◌≤◌}
 use native.Mathlib.Decide.{ℕ_discrete}
 use native.Mathlib.Omega.{arith}
 use mathlib.Core.Bool.{Bool, true, false}
-use mathlib.Core.List.{List, [], ◌∷◌, ◌++◌}
-use mathlib.Core.Logic.{◌⊎◌, inl, inr}
+use mathlib.Core.List.{List, [], ◌∷◌}
 use mathlib.Core.Path.{◌≡◌, refl, sym, ap, subst, ◌∙◌}
-use denote.Ref.{Bor}
 use Rattle.refusals.specs.Numbers.{wrong_byte, images_differ}
 use Rattle.refusals.specs.First.{Fault, ◌gives◌, is_refusal, first_of}
-use Rattle.refusals.specs.Call.{Call, refusal_of, result_of, left_of}
-use Rattle.refusals.specs.Demand1.{NoneHolds, FirstThatHolds, SomeHolds, Demand1}
-use Rattle.refusals.proofs.Calls.{passed_on_numbered}
+use Rattle.refusals.specs.Call.{refusal_of, result_of, left_of}
+use Rattle.refusals.proofs.Calls.{passed_on_numbered, result_cases}
 use Rattle.book.specs.declared.Book.{Book}
-use Rattle.book.specs.declared.Updated.{Updated}
-use Rattle.book.specs.declared.Figure.{Figure}
+use Rattle.book.specs.declared.told.Updated.{Updated}
+use Rattle.book.specs.declared.told.Figure.{Figure}
 use Rattle.book.specs.Adding.{added, added_ring}
 use Rattle.book.specs.Calls.{add_call, total_call}
 use Rattle.book.proofs.Promises.{add_known, add_gives, added_usable, total_taken, total_gives}
@@ -26,10 +24,8 @@ use Rattle.image.proofs.Promises.{refusal_range}
 use Rattle.score.specs.declared.Answer.{Answer}
 use Rattle.score.specs.Calls.{score_faults, score_call}
 use Rattle.score.proofs.Promises.{refusal_is}
-use Rattle.score.proofs.Promises.{score_promised}
-use Rattle.rows.specs.declared.Scored.{Scored}
+use Rattle.watch.specs.Answers.{Refused, Ends}
 use Rattle.watch.specs.declared.State.{State}
-use Rattle.watch.specs.declared.Turn.TheVariants.{Refused, Ends}
 use Rattle.watch.specs.Setting as setting
 use Rattle.watch.specs.Turn.{Outcome, shown_of, outcome_of}
 use Rattle.watch.specs.Output.{Moment, outcome_at, Runs}
@@ -40,13 +36,13 @@ use Rattle.watch.proofs.Streaming.{refused_no_row, refused_no_wait}
 use Rattle.watch.proofs.RowsAreTrue.{scores_good, score_taken, runs_from_opening}
 
 ends_not_refused : {refusal : ℕ} → Ends ≡ Refused refusal → ⊥
-ends_not_refused e = let z : ◌≡◌ {A = ℕ} 0 1 = cc in omega arith
+ends_not_refused e = cc
 
 same_refusal : {one two : ℕ} → Refused one ≡ Refused two → one ≡ two
 same_refusal e = cc
 
 -- where the total for the window kept is not refused, a row is shown
-shown_taken : (state : State) (ring : List ℕ) (scored : Scored) (used refusal : ℕ)
+shown_taken : (state : State) (ring : List ℕ) (scored : Option ℕ) (used refusal : ℕ)
     → (result_of (total_call state.book ring state.book.kept)).refusal ≡ 0 → shown_of state ring scored used ≡ Refused refusal → ⊥
 shown_taken state ring scored used refusal none =
     shown_cases state ring scored used (λ t. t ≡ Refused refusal → ⊥) (λ taken e. refused_no_row (sym e)) (λ refused e. refused none)
@@ -76,36 +72,14 @@ refused_leaves state ring last rest over refusal =
     Claim : Outcome → Type 0
     Claim outcome = outcome.turn ≡ Refused refusal → outcome.ring ≡ ring
 
-    in_the_book : (image : List ℕ) (scored : Scored) (used : ℕ) → let call = add_call state.book ring (score_of last image).value in
+    in_the_book : (image : List ℕ) (scored : Option ℕ) (used : ℕ) → let call = add_call state.book ring (score_of last image).value in
         Dec (refusal_of call ≡ 0)
         → shown_of (record { book = (result_of call).book; frames = state.frames }) (left_of call) scored used ≡ Refused refusal → left_of call ≡ ring
     in_the_book image scored used (yes taken) e =
         absurd (shown_taken _ _ scored used refusal (total_after state.book ring (score_of last image).value taken) e)
     in_the_book image scored used (no ne) e = untaken_leaves state.book ring (score_of last image).value ne
 
--- THE NUMBERS. A number that a result tells is its call's refusal, by demand 1
-first_given : (faults : List Fault) (number : ℕ) → FirstThatHolds faults number → (number ≡ 0 → ⊥) → first_of faults ≡ number
-first_given faults number f ne = ap first_of f.split ∙ by f.earlier f.none_earlier
-  where
-    alone : (k : ℕ) → (k ≡ 0 → ⊥) → first_of ((true gives k) ∷ f.later) ≡ k
-    alone zero h = absurd (h refl)
-    alone (suc k) h = refl
-
-    by : (earlier : List Fault) → NoneHolds earlier → first_of (earlier ++ (true gives number) ∷ f.later) ≡ number
-    by [] none = alone number ne
-    by ((holds gives other) ∷ earlier) none = rw none.0 (by earlier none.1)
-
-told_refusal : {Result Lent : Type 0} (number_in : Result → ℕ) (call : Call Result Lent) (result : Result) (after : Lent)
-    → Demand1 number_in call result after → (number_in result ≡ 0 → ⊥) → number_in result ≡ refusal_of call
-told_refusal number_in call result after demand ne = by demand.decided
-  where
-    by : NoneHolds call.faults ⊎ SomeHolds call.faults → number_in result ≡ refusal_of call
-    by (inl none) = absurd (ne (demand.taken none).0)
-    by (inr some) =
-        let is = (demand.refused some.number some.first).0 in
-        is ∙ sym (first_given call.faults some.number some.first (λ e. ne (is ∙ e)))
-
--- 11 to 16, and so of the first of faults that have such numbers
+-- THE NUMBERS are 11 to 16, and so of the first of faults that have such numbers
 abbrev Known : ℕ → Type 0
 Known refusal = (wrong_byte ≤ refusal) × (refusal ≤ images_differ)
 
@@ -124,24 +98,13 @@ image_known bytes ne = let range = refusal_range bytes ne in (range.0, omega (ar
 
 -- a score of the setting is refused with the refusal of one of its images, or because they differ
 module _ (last image : List ℕ) where
-  abbrev call : Call Answer (List ℕ × List ℕ)
-  call = score_call setting.bound setting.allowance last image
-
-  abbrev reference : List ℕ → Bor (List ℕ)
-  reference bytes = record { ref_ptr = (0, 0); now = bytes }
-
-  -- what is promised of every call is promised of one with these images
-  score_demand : Demand1 (λ (r : Answer). r.refusal) call (result_of call) (last, image)
-  score_demand =
-      let handed : ℕ × (ℕ × (Bor (List ℕ) × (Bor (List ℕ) × Unit {0}))) =
-      (setting.bound, (setting.allowance, (reference last, (reference image, tt)))) in
-      (score_promised ([], ([], tt))).demand_1 handed (result_of call) handed refl
-
   score_known : ((score_of last image).refusal ≡ 0 → ⊥) → Known (score_of last image).refusal
-  score_known ne =
-      let is = told_refusal (λ (r : Answer). r.refusal) call (result_of call) (last, image) score_demand ne
-      ∙ sym (refusal_is setting.bound setting.allowance last image) in
-      rw is (first_known (score_faults setting.bound (numbers_of last) (numbers_of image)) all_known (λ e. ne (is ∙ e)))
+  unfolding score_call
+  score_known =
+      result_cases (λ (answer : Answer). (answer.refusal ≡ 0 → ⊥) → Known answer.refusal) (score_call setting.bound setting.allowance last image)
+      (λ e ne. absurd (ne refl))
+      (λ number e ne. (let is = refusal_is setting.bound setting.allowance last image ∙ e in
+      rw is at (first_known (score_faults setting.bound (numbers_of last) (numbers_of image)) all_known (λ none. ne (sym is ∙ none)))))
     where
       passed : (bytes : List ℕ) → is_refusal (numbers_of bytes).refusal ≡ true → Known (numbers_of bytes).refusal
       passed bytes e = image_known bytes (λ none. omega (arith, passed_on_numbered (numbers_of bytes).refusal e))
@@ -151,7 +114,7 @@ module _ (last image : List ℕ) where
 
       all_known : AllKnown (score_faults setting.bound (numbers_of last) (numbers_of image))
       all_known =
-          (λ e. absurd (let z : ◌≡◌ {A = ℕ} 0 1 = cc in omega arith), (passed last, (passed image, (λ e. differ, (λ e. differ, (λ e. differ, tt))))))
+          (λ e. absurd cc, (passed last, (passed image, (λ e. differ, (λ e. differ, (λ e. differ, tt))))))
 
 -- IN A RUN a refusal is one of those: the book takes every score, and has a total for the window kept
 pub run_refusal_range : (input : List ℕ) (moment : Moment) → Runs input moment → (over : Bool) (refusal : ℕ)

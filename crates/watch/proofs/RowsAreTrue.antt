@@ -2,26 +2,29 @@
 -- kept, its total, its verdict's word, and `early` exactly while fewer than 30 items are kept (SCOPE, Program). And the book is awake, so that no
 -- row says `resting`.
 -- Assumes nothing.
+use Rattle.std.specs.Prelude.{Option, Result, Ok, Err}
 use Prim.Native.Nat.{ℕ, ◌≤◌, ◌<◌}
 use native.Mathlib.Omega.{arith}
-use mathlib.Core.Bool.{Bool, true, false, not}
+use mathlib.Core.Bool.{Bool, false}
 use mathlib.Core.List.{List, [], ◌∷◌, ◌++◌}
 use mathlib.Core.Logic.{◌⊎◌, ⊎_elim}
 use mathlib.Core.Path.{◌≡◌, refl, sym, ap, subst, ◌∙◌}
-use borrow.Author.Tests.{eq-eqb}
-use lib.Dec.{T, eqb}
+use Rattle.refusals.specs.declared.Refusal.{Refusal}
 use Rattle.refusals.specs.Numbers.{window_too_long}
+use Rattle.refusals.proofs.Numbers.{number_not_0}
+use Rattle.refusals.proofs.Calls.{result_number}
+use Rattle.book.specs.declared.told.Updated.{Updated}
 use Rattle.refusals.specs.Call.{refusal_of, result_of, left_of}
 use Rattle.book.specs.declared.Book.{Book}
 use Rattle.book.specs.declared.shape.Shape.{Shape}
 use Rattle.book.specs.declared.verdicts.Verdict.{Verdict}
 use Rattle.book.specs.declared.verdicts.Verdict.TheVariants.{Live, Frozen, Undecided, Resting}
-use Rattle.book.specs.declared.verdicts.Ruling.TheVariants as rulings
+use Rattle.book.specs.Answers as rulings
 use Rattle.book.specs.Derived.{bytes_needed}
 use Rattle.book.specs.Resting.{awake}
 use Rattle.book.specs.Sound.{Ranges}
 use Rattle.book.specs.Calls.{add_call, total_call, verdict_call}
-use Rattle.book.proofs.Promises.{open_taken, opening_awake, add_leaves_mark, box_shape, le_or_lt}
+use Rattle.book.proofs.Promises.{open_tells, open_taken, opening_awake, add_leaves_mark, box_shape, le_or_lt}
 use Rattle.demands.specs.History.{Good, true_total}
 use Rattle.demands.specs.Demand2.{TotalGiven}
 use Rattle.demands.specs.VerdictMeans.{Says, VerdictMeans}
@@ -31,16 +34,15 @@ use Rattle.demands.proofs.Demand2.{demand_2}
 use Rattle.demands.proofs.VerdictMeans.{verdict_means}
 use Rattle.demands.proofs.RunFromOpening.{opening_begins, adding_goes_on, run_good, record_follows}
 use Rattle.score.proofs.Promises.{score_le_bound}
-use Rattle.rows.specs.declared.Scored.{Scored}
 use Rattle.rows.specs.declared.Word.{Word}
 use Rattle.rows.specs.declared.Word.TheVariants as words
+use Rattle.watch.specs.Answers.{Row, Started}
 use Rattle.watch.specs.declared.State.{State}
-use Rattle.watch.specs.declared.Started.{Started}
 use Rattle.watch.specs.declared.Line.{Line}
-use Rattle.watch.specs.declared.Turn.TheVariants.{Row}
 use Rattle.watch.specs.Setting as setting
 use Rattle.watch.specs.Turn.{word_of, Outcome, shown_of, outcome_of}
-use Rattle.watch.specs.Calls.{opening}
+use Rattle.watch.specs.Told.{as_started}
+use Rattle.watch.specs.Calls.{opening, start_call}
 use Rattle.watch.specs.Output.{no_bytes, first_state, first_ring, Moment, outcome_at, Runs, begins, reads, turns}
 use Rattle.watch.specs.TrueRows.{score_in, scores_of, TrueRow}
 use Rattle.watch.proofs.Starting.{start_gives, start_leaves}
@@ -76,11 +78,11 @@ module _ (book : Book) (ring scores : List ℕ) (run : Scores book ring scores) 
 
 -- A ROW goes on with the book of the scores and its own, and says what that book says
 record GoesOn (scores ring : List ℕ) (line : Line) : Type 0 where
-  run : Scores line.state.book ring (score_in line.scored ++ scores)
+  run : Scores line.state.book ring (score_in line.score ++ scores)
   total_is : line.total ≡ (result_of (total_call line.state.book ring line.state.book.kept)).figure
   word_is : line.word ≡ word_of (result_of (verdict_call line.state.book ring setting.window setting.amount))
 
-shown_goes_on : (state : State) (ring : List ℕ) (scored : Scored) (used : ℕ) (scores : List ℕ) (line : Line)
+shown_goes_on : (state : State) (ring : List ℕ) (scored : Option ℕ) (used : ℕ) (scores : List ℕ) (line : Line)
     → Scores state.book ring (score_in scored ++ scores) → shown_of state ring scored used ≡ Row line → GoesOn scores ring line
 shown_goes_on state ring scored used scores line run =
     shown_cases state ring scored used (λ t. t ≡ Row line → GoesOn scores ring line)
@@ -122,6 +124,20 @@ first_opened =
       opening_awake setting.bound setting.length setting.tolerance no_bytes,
     )
 
+-- so that a caller who starts with that ring is not refused
+pub start_given : (result : Result State Refusal) → as_started result ≡ result_of (start_call no_bytes) → result ≡ Ok first_state
+start_given result said = by result said
+  where
+    none : (result_of (start_call no_bytes)).refusal ≡ 0
+    none =
+        ap (λ (s : Started). s.refusal) (sym (start_gives no_bytes))
+        ∙ result_number (λ (u : Updated). u.refusal) (opening no_bytes) (open_tells setting.bound setting.length setting.tolerance no_bytes)
+        ∙ opens
+
+    by : (result : Result State Refusal) → as_started result ≡ result_of (start_call no_bytes) → result ≡ Ok first_state
+    by (Ok state) e = ap (λ (s : Started). Ok s.state) e
+    by (Err refusal) e = absurd (number_not_0 refusal (ap (λ (s : Started). s.refusal) e ∙ none))
+
 -- AT EACH MOMENT of a run the book's items are the scores of its rows, and the book is awake
 pub runs_from_opening : (input : List ℕ) (moment : Moment) → Runs input moment
     → FromOpening setting.bound setting.length setting.tolerance no_bytes moment.state.book moment.ring (scores_of moment.lines)
@@ -131,21 +147,6 @@ runs_from_opening input moment (reads before run piece unread split) = runs_from
 runs_from_opening input moment (turns before run line row) =
     (row_goes_on before.state before.ring before.last before.hand false (scores_of before.lines) line
     (runs_from_opening input before run) row).run
-
--- the words are five
-abbrev place_of : Word → ℕ
-place_of words.Early = 0
-place_of words.Live = 1
-place_of words.Frozen = 2
-place_of words.Undecided = 3
-place_of words.Resting = 4
-
-apart : (one two : Word) → T (not (eqb (place_of one) (place_of two))) → one ≡ two → ⊥
-apart one two differ e = by (eqb (place_of one) (place_of two)) (eq-eqb (place_of one) (place_of two) (ap place_of e)) differ
-  where
-    by : (b : Bool) → b ≡ true → T (not b) → ⊥
-    by true e t = t
-    by false e t = let z : ◌≡◌ {A = ℕ} 0 1 = cc in omega arith
 
 -- what the word of a verdict that is told means while the book is awake
 record Means (word : Word) (scores : List ℕ) : Type 0 where
@@ -163,26 +164,26 @@ word_means book ring scores up means = by _ means.told
     by (Live figure) told =
         rw told
         (record {
-          not_early = apart words.Live words.Early tt;
+          not_early = λ e. cc;
           live = λ e. means.live_holds figure told;
-          frozen = λ e. absurd (apart words.Live words.Frozen tt e);
-          not_at_rest = apart words.Live words.Resting tt;
+          frozen = λ e. absurd cc;
+          not_at_rest = λ e. cc;
         })
     by (Frozen figure) told =
         rw told
         (record {
-          not_early = apart words.Frozen words.Early tt;
-          live = λ e. absurd (apart words.Frozen words.Live tt e);
+          not_early = λ e. cc;
+          live = λ e. absurd cc;
           frozen = λ e. means.frozen_less figure told;
-          not_at_rest = apart words.Frozen words.Resting tt;
+          not_at_rest = λ e. cc;
         })
     by (Undecided figure) told =
         rw told
         (record {
-          not_early = apart words.Undecided words.Early tt;
-          live = λ e. absurd (apart words.Undecided words.Live tt e);
-          frozen = λ e. absurd (apart words.Undecided words.Frozen tt e);
-          not_at_rest = apart words.Undecided words.Resting tt;
+          not_early = λ e. cc;
+          live = λ e. absurd cc;
+          frozen = λ e. absurd cc;
+          not_at_rest = λ e. cc;
         })
     by (Resting figure) told = absurd (means.resting_only figure told up)
 
@@ -236,9 +237,9 @@ module _ (input : List ℕ) (moment : Moment) (runs : Runs input moment) (over :
         short_by_less = rw (next.total_is, sym follows.tolerance_is) total_given.bounds.not_far_below;
         early_only = λ e. ⊎_elim (λ many. absurd ((told many).not_early e)) (λ few. few) enough;
         early_while = λ few. (early_at_5 few).1;
-        live = λ e. ⊎_elim (λ many. (told many).live e) (λ few. absurd (apart words.Early words.Live tt (sym (early_at_5 few).1 ∙ e))) enough;
-        frozen = λ e. ⊎_elim (λ many. (told many).frozen e) (λ few. absurd (apart words.Early words.Frozen tt (sym (early_at_5 few).1 ∙ e))) enough;
-        never_resting = λ e. ⊎_elim (λ many. (told many).not_at_rest e) (λ few. apart words.Early words.Resting tt (sym (early_at_5 few).1 ∙ e)) enough;
+        live = λ e. ⊎_elim (λ many. (told many).live e) (λ few. absurd (let both = sym (early_at_5 few).1 ∙ e in cc)) enough;
+        frozen = λ e. ⊎_elim (λ many. (told many).frozen e) (λ few. absurd (let both = sym (early_at_5 few).1 ∙ e in cc)) enough;
+        never_resting = λ e. ⊎_elim (λ many. (told many).not_at_rest e) (λ few. let both = sym (early_at_5 few).1 ∙ e in cc) enough;
       }
     where
       enough : (setting.window ≤ book.kept) ⊎ (book.kept < setting.window)

@@ -9,14 +9,18 @@ use mathlib.Core.Path.{◌≡◌, refl, sym, ap, ap₂, ◌∙◌}
 use borrow.Author.Tests.{lt-ltb, le-ltb}
 use lib.ListN.{length}
 use lib.Seq.{sets}
+use Rattle.std.specs.Prelude.{Result, Ok, Err, IsOk}
+use Rattle.std.proofs.Common.{rules}
+use Rattle.refusals.specs.declared.Refusal.{Refusal}
 use Rattle.refusals.specs.Numbers.{buffer_too_short}
+use Rattle.refusals.proofs.Numbers.{number_not_0}
 use Rattle.refusals.specs.Call.{Call, refusal_of, result_of, left_of}
 use Rattle.refusals.proofs.Calls.{result_taken, result_refused, left_taken, left_refused}
 use Rattle.rows.specs.Calls.{line_most}
+use Rattle.watch.specs.Answers.{Turn, Refused, Stepped}
 use Rattle.watch.specs.declared.State.{State}
-use Rattle.watch.specs.declared.Turn.{Turn}
-use Rattle.watch.specs.declared.Turn.TheVariants.{Refused}
-use Rattle.watch.specs.declared.Stepped.{Stepped}
+use Rattle.watch.specs.declared.Stepped as code
+use Rattle.watch.specs.Told.{as_turn, as_stepped}
 use Rattle.watch.specs.Turn.{Outcome, frame_after, outcome_of}
 use Rattle.watch.specs.Calls.{text_of, step_text, step_call}
 
@@ -58,6 +62,22 @@ module _ (state : State) (ring last rest : List ℕ) (over : Bool) (out : List �
     pub step_leaves : left_of call ≡ (outcome.ring, sets out 0 text)
     unfolding step_call
     step_leaves = sym (left_taken call found_0 refl)
+
+    -- so a caller is not refused, and has that turn and that length
+    pub step_given : (result : Result code.Stepped Refusal) → as_stepped result ≡ result_of call
+        → IsOk result × ((stepped : code.Stepped) → result ≡ Ok stepped → (as_turn stepped.turn ≡ outcome.turn) × (stepped.wrote ≡ length text))
+    step_given result said = (
+      by result gives,
+      λ stepped is. (let same = ap as_stepped (sym is) ∙ gives in
+          (ap (λ (s : Stepped). s.turn) same, ap (λ (s : Stepped). s.wrote) same)),
+    )
+      where
+        gives : as_stepped result ≡ record { refusal = 0; turn = outcome.turn; wrote = length text }
+        gives = said ∙ step_gives
+
+        by : (result : Result code.Stepped Refusal) → as_stepped result ≡ record { refusal = 0; turn = outcome.turn; wrote = length text } → IsOk result
+        by (Ok stepped) e = search rules
+        by (Err refusal) e = absurd (number_not_0 refusal (ap (λ (s : Stepped). s.refusal) e))
 
     -- as the code takes it: a turn is decided, and then said
     pub step_taken : {turn : Turn} {frame wrote : ℕ} {ring' out' : List ℕ} → (turn ≡ outcome.turn) × (ring' ≡ outcome.ring)

@@ -1,6 +1,7 @@
 -- An outcome that does not wait is the same, turn and ring, however the input goes on, so that a run over pieces writes what the whole input
 -- gives; and who waits has fewer bytes than an image may have.
 -- Assumes nothing.
+use Rattle.std.specs.Prelude.{Option}
 use Prim.Native.Nat.{ℕ, ◌≤◌, ◌<◌}
 use native.Mathlib.Omega.{arith}
 use mathlib.Core.Bool.{Bool, true, false, not, ◌&&◌}
@@ -15,33 +16,32 @@ use Rattle.refusals.specs.Numbers.{ends_too_early}
 use Rattle.image.specs.Seen.{limit}
 use Rattle.image.specs.Reading.{numbers_of}
 use Rattle.image.proofs.Promises as images
-use Rattle.rows.specs.declared.Scored.{Scored}
+use Rattle.watch.specs.Answers.{Row, Refused, Ends, Wait}
 use Rattle.watch.specs.declared.State.{State}
 use Rattle.watch.specs.declared.Line.{Line}
-use Rattle.watch.specs.declared.Turn.TheVariants.{Row, Refused, Ends, Wait}
 use Rattle.watch.specs.Turn.{Outcome, shown_of, counted_of, decided_of, outcome_of}
 use Rattle.watch.proofs.Deciding.{none_yet, short_waits, decides}
 use Rattle.watch.proofs.OutcomeCases.{shown_cases, counted_cases, decided_cases, outcome_cases}
 
 -- THE TURNS are four
 pub refused_no_row : {refusal : ℕ} {line : Line} → Refused refusal ≡ Row line → ⊥
-refused_no_row e = let z : ◌≡◌ {A = ℕ} 0 1 = cc in omega arith
+refused_no_row e = cc
 
 pub wait_no_row : {line : Line} → Wait ≡ Row line → ⊥
-wait_no_row e = let z : ◌≡◌ {A = ℕ} 0 1 = cc in omega arith
+wait_no_row e = cc
 
 pub ends_no_row : {line : Line} → Ends ≡ Row line → ⊥
-ends_no_row e = let z : ◌≡◌ {A = ℕ} 0 1 = cc in omega arith
+ends_no_row e = cc
 
 pub refused_no_wait : {refusal : ℕ} → Refused refusal ≡ Wait → ⊥
-refused_no_wait e = let z : ◌≡◌ {A = ℕ} 0 1 = cc in omega arith
+refused_no_wait e = cc
 
 -- an image that decides does not wait
-shown_no_wait : (state : State) (ring : List ℕ) (scored : Scored) (used : ℕ) → shown_of state ring scored used ≡ Wait → ⊥
+shown_no_wait : (state : State) (ring : List ℕ) (scored : Option ℕ) (used : ℕ) → shown_of state ring scored used ≡ Wait → ⊥
 shown_no_wait state ring scored used =
     shown_cases state ring scored used (λ t. t ≡ Wait → ⊥) (λ none e. wait_no_row (sym e)) (λ refused. refused_no_wait)
 
-decided_no_wait : (state : State) (ring last rest : List ℕ) → (decided_of state ring last rest).turn ≡ Wait → ⊥
+pub decided_no_wait : (state : State) (ring last rest : List ℕ) → (decided_of state ring last rest).turn ≡ Wait → ⊥
 decided_no_wait state ring last rest =
     decided_cases state ring last rest (λ o. o.turn ≡ Wait → ⊥) (λ refused. refused_no_wait)
     (λ taken first. shown_no_wait _ _ _ _)
@@ -52,7 +52,7 @@ decided_no_wait state ring last rest =
 pub wait_short : (state : State) (ring last rest : List ℕ) → (outcome_of state ring last rest false).turn ≡ Wait → length rest < limit
 wait_short state ring last rest =
     outcome_cases state ring last rest false (λ o. o.turn ≡ Wait → length rest < limit) (λ go why e. by why)
-    (λ over none e. absurd (let z : ◌≡◌ {A = ℕ} 0 1 = cc in omega arith))
+    (λ over none e. absurd cc)
     (λ some whole e. absurd (decided_no_wait state ring last rest e))
   where
     by : (length rest ≡ 0) ⊎ ((numbers_of rest).refusal ≡ ends_too_early) → length rest < limit
@@ -118,7 +118,7 @@ outcome_stays state ring last part more goes over =
 abbrev Took : List ℕ → Line → Type 0
 Took rest line = ((numbers_of rest).refusal ≡ 0) × (line.used ≡ (numbers_of rest).used)
 
-shown_used : (state : State) (ring : List ℕ) (scored : Scored) (used : ℕ) (line : Line) → shown_of state ring scored used ≡ Row line
+shown_used : (state : State) (ring : List ℕ) (scored : Option ℕ) (used : ℕ) (line : Line) → shown_of state ring scored used ≡ Row line
     → line.used ≡ used
 shown_used state ring scored used line =
     shown_cases state ring scored used (λ t. t ≡ Row line → line.used ≡ used) (λ none e. cc) (λ refused e. absurd (refused_no_row e))

@@ -10,10 +10,9 @@ use lib.ListN.{length, take, drop, length-append, length-drop}
 use lib.Seq.{take-append-le, drop-append-le}
 use Rattle.image.specs.Seen.{limit}
 use Rattle.rows.specs.Row.{head_text}
+use Rattle.watch.specs.Answers.{Turn, Row, Refused, Ends, Wait}
 use Rattle.watch.specs.declared.State.{State}
 use Rattle.watch.specs.declared.Line.{Line}
-use Rattle.watch.specs.declared.Turn.{Turn}
-use Rattle.watch.specs.declared.Turn.TheVariants.{Row, Refused, Ends, Wait}
 use Rattle.watch.specs.Turn.{Outcome, outcome_of}
 use Rattle.watch.specs.Calls.{step_text}
 use Rattle.watch.specs.Output.{then_rows, rows_from, first_state, first_ring, output_of, Moment, outcome_at, Runs, begins, reads, turns}

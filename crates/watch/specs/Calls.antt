@@ -4,15 +4,12 @@ use Rattle.std.proofs.lemmas.List.Edits.{sets}
 use Rattle.refusals.specs.Numbers.{buffer_too_short}
 use Rattle.refusals.specs.First.{◌gives◌}
 use Rattle.refusals.specs.Call.{Call, seen_as}
-use Rattle.book.specs.declared.Updated.{Updated}
+use Rattle.book.specs.declared.told.Updated.{Updated}
 use Rattle.book.specs.Calls.{open_call}
 use Rattle.rows.specs.Row.{row_text, refused_text}
 use Rattle.rows.specs.Calls.{line_most}
+use Rattle.watch.specs.Answers.{Turn, Row, Refused, Ends, Wait, Started, Stepped}
 use Rattle.watch.specs.declared.State.{State}
-use Rattle.watch.specs.declared.Started.{Started}
-use Rattle.watch.specs.declared.Turn.{Turn}
-use Rattle.watch.specs.declared.Turn.TheVariants.{Row, Refused, Ends, Wait}
-use Rattle.watch.specs.declared.Stepped.{Stepped}
 use Rattle.watch.specs.Setting as setting
 use Rattle.watch.specs.Turn.{frame_after, outcome_of}
 
@@ -30,7 +27,7 @@ start_call ring = seen_as started_by (opening ring)
 
 -- what a turn writes, for the frame of this number
 abbrev pub text_of : ℕ → Turn → List ℕ
-text_of frame (Row line) = row_text frame line.scored line.state.book.kept line.total line.word
+text_of frame (Row line) = row_text frame line.score line.state.book.kept line.total line.word
 text_of frame (Refused refusal) = refused_text frame refusal
 text_of frame Ends = []
 text_of frame Wait = []

@@ -1,4 +1,6 @@
 pub mod Setting
+pub mod Answers
+pub mod Told
 pub mod Turn
 pub mod Calls
 pub mod Output

@@ -2,10 +2,9 @@
 use Rattle.std.specs.Prelude.{ℕ, zero, suc, Bool, true, false, List, [], ◌∷◌, ◌++◌, ◌≡◌, length, take, drop, replicate}
 use Rattle.refusals.specs.Call.{result_of, left_of}
 use Rattle.rows.specs.Row.{head_text}
+use Rattle.watch.specs.Answers.{Turn, Row, Refused, Ends, Wait}
 use Rattle.watch.specs.declared.State.{State}
 use Rattle.watch.specs.declared.Line.{Line}
-use Rattle.watch.specs.declared.Turn.{Turn}
-use Rattle.watch.specs.declared.Turn.TheVariants.{Row, Refused, Ends, Wait}
 use Rattle.watch.specs.Setting as setting
 use Rattle.watch.specs.Turn.{Outcome, outcome_of}
 use Rattle.watch.specs.Calls.{start_call, step_text}

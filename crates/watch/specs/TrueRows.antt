@@ -1,22 +1,20 @@
 -- What the rows of a run mean (SCOPE, Program and Demands): the book's items are the scores that the rows print, and each row's total and
 -- verdict are true of them.
-use Rattle.std.specs.Prelude.{ℕ, ◌+◌, ◌≤◌, ◌<◌, min, List, [], ◌∷◌, ◌++◌, ◌≡◌, length}
+use Rattle.std.specs.Prelude.{Option, None, Some, ℕ, ◌+◌, ◌≤◌, ◌<◌, min, List, [], ◌∷◌, ◌++◌, ◌≡◌, length}
 use Rattle.demands.specs.History.{true_total}
-use Rattle.rows.specs.declared.Scored.{Scored}
-use Rattle.rows.specs.declared.Scored.TheVariants.{First, By}
 use Rattle.rows.specs.declared.Word.TheVariants as words
 use Rattle.watch.specs.declared.Line.{Line}
 use Rattle.watch.specs.Setting as setting
 
 -- the score that a row prints; the first frame's has none
-abbrev pub score_in : Scored → List ℕ
-score_in First = []
-score_in (By score) = score ∷ []
+abbrev pub score_in : Option ℕ → List ℕ
+score_in None = []
+score_in (Some score) = score ∷ []
 
 -- the scores of rows, both with the newest first
 abbrev pub scores_of : List Line → List ℕ
 scores_of [] = []
-scores_of (line ∷ earlier) = score_in line.scored ++ scores_of earlier
+scores_of (line ∷ earlier) = score_in line.score ++ scores_of earlier
 
 -- a row, where `scores` are its own score and those of the rows before it
 pub record TrueRow (scores : List ℕ) (line : Line) : Type 0 where

@@ -1,23 +1,19 @@
 -- What a frame leads to (SCOPE, Program), in the program's setting (specs/Setting.antt).
-use Rattle.std.specs.Prelude.{ℕ, ◌+◌, min, Bool, not, cond, ◌&&◌, ◌||◌, List, eqb, length, take}
+use Rattle.std.specs.Prelude.{Option, None, Some, ℕ, ◌+◌, min, Bool, not, cond, ◌&&◌, ◌||◌, List, eqb, length, take}
 use Rattle.refusals.specs.Numbers.{ends_too_early}
 use Rattle.refusals.specs.First.{unless_refused}
 use Rattle.refusals.specs.Call.{result_of, left_of}
 use Rattle.book.specs.declared.verdicts.Verdict.{Verdict}
 use Rattle.book.specs.declared.verdicts.Verdict.TheVariants.{Live, Frozen, Undecided, Resting}
-use Rattle.book.specs.declared.verdicts.Ruling.{Ruling}
-use Rattle.book.specs.declared.verdicts.Ruling.TheVariants.{Told}
-use Rattle.book.specs.declared.verdicts.Ruling.TheVariants as rulings
+use Rattle.book.specs.Answers.{Ruling, Told}
+use Rattle.book.specs.Answers as rulings
 use Rattle.book.specs.Calls.{add_call, total_call, verdict_call}
 use Rattle.image.specs.Reading.{numbers_of}
 use Rattle.score.specs.Calls.{score_call}
-use Rattle.rows.specs.declared.Scored.{Scored}
-use Rattle.rows.specs.declared.Scored.TheVariants.{First, By}
 use Rattle.rows.specs.declared.Word.{Word}
 use Rattle.rows.specs.declared.Word.TheVariants as words
+use Rattle.watch.specs.Answers.{Turn, Row, Refused, Ends, Wait}
 use Rattle.watch.specs.declared.State.{State}
-use Rattle.watch.specs.declared.Turn.{Turn}
-use Rattle.watch.specs.declared.Turn.TheVariants.{Row, Refused, Ends, Wait}
 use Rattle.watch.specs.Setting as setting
 
 -- the verdict's word …
@@ -37,8 +33,8 @@ abbrev pub frame_after : ℕ → ℕ
 frame_after frames = min 18446744073709551615 (frames + 1)
 
 -- the row that a frame's state and score lead to: the figure for the window kept, and the verdict of the setting
-unfoldable pub shown_of : State → List ℕ → Scored → ℕ → Turn
-shown_of state ring scored used =
+unfoldable pub shown_of : State → List ℕ → Option ℕ → ℕ → Turn
+shown_of state ring score used =
     let book = state.book in
     let total = result_of (total_call book ring book.kept) in
     unless_refused total.refusal
@@ -46,7 +42,7 @@ shown_of state ring scored used =
     (record {
       state = record { book = book; frames = frame_after state.frames };
       used = used;
-      scored = scored;
+      score = score;
       total = total.figure;
       word = word_of (result_of (verdict_call book ring setting.window setting.amount));
     }))
@@ -70,7 +66,7 @@ counted_of state ring last image =
     unless_refused score.refusal
     (unless_refused added.refusal
     (record {
-      turn = shown_of (record { book = added.book; frames = state.frames }) (left_of adding) (By score.value) (length image);
+      turn = shown_of (record { book = added.book; frames = state.frames }) (left_of adding) (Some score.value) (length image);
       ring = left_of adding;
     })
     (refused_turn ring added.refusal))
@@ -82,7 +78,7 @@ decided_of state ring last rest =
     let numbers = numbers_of rest in
     unless_refused numbers.refusal
     (cond (eqb state.frames 0)
-    (record { turn = shown_of state ring First numbers.used; ring = ring })
+    (record { turn = shown_of state ring None numbers.used; ring = ring })
     (counted_of state ring last (take numbers.used rest)))
     (refused_turn ring numbers.refusal)
 

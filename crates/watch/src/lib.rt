@@ -3,14 +3,16 @@
 
 #![tactic(auto)]
 
-ghost use Rattle.std.specs.Prelude.{◌≡◌};
+ghost use Rattle.std.specs.Prelude.{◌≡◌, ◌≤◌, IfOk};
 ghost use Rattle.refusals.specs.Call.{result_of, left_of};
+ghost use Rattle.rows.specs.Calls.{line_most};
 ghost use Rattle.watch.specs.Turn.{outcome_of};
 ghost use Rattle.watch.specs.Calls.{start_call, step_call};
+ghost use Rattle.watch.specs.Told.{as_turn, as_started, as_stepped};
 
 use book::Book;
-use refusals::BUFFER_TOO_SHORT;
-use rows::{LINE_MOST, Scored, Word};
+use refusals::Refusal;
+use rows::{LINE_MOST, Word};
 
 mod say;
 pub mod setting;
@@ -23,12 +25,12 @@ pub struct State {
     pub frames: u64,
 }
 
-// What a row says: the state after the frame, the bytes that its image took, and the row's own fields.
+// What a row says: the state after the frame, the bytes that its image took, and the row's own fields. The first frame has no score.
 #[derive(Clone, Copy)]
 pub struct Line {
     pub state: State,
     pub used: usize,
-    pub scored: Scored,
+    pub score: Option<u64>,
     pub total: u64,
     pub word: Word,
 }
@@ -37,36 +39,24 @@ pub struct Line {
 #[derive(Clone, Copy)]
 pub enum Turn {
     Row(Line),
-    Refused(u8),
+    Refused(Refusal),
     Ends,
     Wait,
 }
 
-// The state before the first frame, or a refusal with a record of zeros.
-#[derive(Clone, Copy)]
-pub struct Started {
-    pub refusal: u8,
-    pub state: State,
-}
-
-// What a step gives: its turn, and how many bytes of its row were written; or a refusal, and then the turn tells it too.
+// What a step gives: its turn, and how many bytes of its row were written.
 #[derive(Clone, Copy)]
 pub struct Stepped {
-    pub refusal: u8,
     pub turn: Turn,
     pub wrote: usize,
 }
 
-// Opens the book of the setting in a lent ring.
-pub fn start(ring: &mut [u8]) -> Started
-    ensures { (result ≡ result_of (start_call ring.old)) × (ring.new ≡ left_of (start_call ring.old)) }
+// Opens the book of the setting in a lent ring: the state before the first frame.
+pub fn start(ring: &mut [u8]) -> Result<State, Refusal>
+    ensures { (as_started result ≡ result_of (start_call ring.old)) × (ring.new ≡ left_of (start_call ring.old)) }
 {
-    let opened = book::open(setting::BOUND, setting::LENGTH, setting::TOLERANCE, ring);
-    let b = opened.book;
-    Started {
-        refusal: opened.refusal,
-        state: State { book: b, frames: 0 },
-    }
+    let book = book::open(setting::BOUND, setting::LENGTH, setting::TOLERANCE, ring)?;
+    Ok(State { book, frames: 0 })
 }
 
 // One turn: `last` is the image of the frame before, `rest` the bytes behind it, and `over` says that no more will come. The row goes
@@ -78,46 +68,32 @@ pub fn step(
     rest: &[u8],
     over: bool,
     out: &mut [u8],
-) -> Stepped
-    ensures { (result ≡ result_of (step_call state ring.old last.now rest.now over out.old)) × ((ring.new, out.new) ≡ left_of (step_call state ring.old last.now rest.now over out.old)) }
+) -> Result<Stepped, Refusal>
+    ensures told { (as_stepped result ≡ result_of (step_call state ring.old last.now rest.now over out.old)) × ((ring.new, out.new) ≡ left_of (step_call state ring.old last.now rest.now over out.old)) }
+    ensures room { IfOk result (λ stepped. stepped.wrote ≤ line_most) }
 {
     if out.len() < LINE_MOST {
-        return Stepped {
-            refusal: BUFFER_TOO_SHORT,
-            turn: Turn::Refused(BUFFER_TOO_SHORT),
-            wrote: 0,
-        };
+        return Err(Refusal::BufferTooShort);
     }
     let turn = decide(state, ring, last, rest, over);
-    let frame = turns::one_more(state.frames);
+    let frame = state.frames.saturating_add(1);
     let wrote = say::turn(frame, turn, out);
-    Stepped {
-        refusal: 0,
-        turn,
-        wrote,
-    }
+    Ok(Stepped { turn, wrote })
 }
 
 // What the bytes at hand lead to; nothing is written yet.
 fn decide(state: State, ring: &mut [u8], last: &[u8], rest: &[u8], over: bool) -> Turn
-    ensures { (result ≡ (outcome_of state ring.old last.now rest.now over).turn) × (ring.new ≡ (outcome_of state ring.old last.now rest.now over).ring) }
+    ensures { (as_turn result ≡ (outcome_of state ring.old last.now rest.now over).turn) × (ring.new ≡ (outcome_of state ring.old last.now rest.now over).ring) }
 {
-    if rest.len() == 0 {
-        if over {
-            return Turn::Ends;
+    if rest.is_empty() {
+        return if over { Turn::Ends } else { Turn::Wait };
+    }
+    match image::header(rest) {
+        Err(refusal) if turns::short_yet(refusal, over) => Turn::Wait,
+        Err(refusal) => Turn::Refused(refusal),
+        Ok(layout) if state.frames == 0 => {
+            Turn::from(turns::shown(state, ring, None, layout.used))
         }
-        return Turn::Wait;
+        Ok(layout) => Turn::from(turns::counted(state, ring, last, &rest[..layout.used])),
     }
-    let numbers = image::header(rest);
-    if turns::short_yet(numbers.refusal, over) {
-        return Turn::Wait;
-    }
-    if numbers.refusal != 0 {
-        return Turn::Refused(numbers.refusal);
-    }
-    let used = numbers.used;
-    if state.frames == 0 {
-        return turns::shown(state, ring, Scored::First, used);
-    }
-    turns::counted(state, ring, last, &rest[..used])
 }

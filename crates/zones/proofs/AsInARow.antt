@@ -1,4 +1,4 @@
--- The calls' own rows, and those of zones in a row as a round goes through them (InARow): the same refusal, the same result, and the same records and
+-- The calls' own rows, and those of zones in a row as the code goes through them (specs/InARow.antt): the same refusal, the same result, and the same records and
 -- ring bytes are left.
 -- Assumes nothing.
 use Prim.Native.Nat.{ℕ, zero, suc, ◌+◌, ◌<◌}
@@ -21,12 +21,16 @@ use Rattle.book.specs.Calls.{room_fault, rest_fault, item_fault}
 use Rattle.zones.specs.Stretches.{ZonesAndRings, zone_at, all_bytes}
 use Rattle.zones.specs.Adding.{added_from}
 use Rattle.zones.specs.Lowest.{taking_refusal, record_refusals, taking_refusals, refusal_of_lowest, lowest_zone}
-use Rattle.zones.specs.declared.Zoned.{Zoned}
+use Rattle.zones.specs.declared.told.Zoned.{Zoned}
 use Rattle.zones.specs.Calls.{how_many_fault, zone_with, add_all_call, add_one_call}
-use Rattle.zones.proofs.InARow.{zone_in_arow, in_arow, early_of_all, early_of_one}
-use Rattle.zones.proofs.LowestOfMore.{or_else_0}
+use Rattle.zones.specs.InARow.{zone_in_arow, in_arow, early_of_all, early_of_one}
 use Rattle.zones.proofs.RefusalsByPlace.{takings_many}
 use Rattle.zones.proofs.LowestInARow.{first_at, with_17_or_7}
+
+-- with a 0 behind it a refusal is itself
+or_else_0 : (number : ℕ) → or_else number 0 ≡ number
+or_else_0 zero = refl
+or_else_0 (suc number) = refl
 
 -- without a count no zone has a refusal of that kind
 no_counts : (zones : List Book) → taking_refusals zones [] ≡ []

@@ -1,31 +1,25 @@
--- The bytes of a record that is a book: those that its L, n and D give, and not many.
+-- The bytes of a record that is a book: at least one, and not many, since the largest ring has 4,096 slots of 16 bits.
 -- Assumes nothing.
 use Prim.Native.Nat.{ℕ, suc, ◌*◌, ◌≤◌, ◌<◌}
 use native.Mathlib.Nat.{mul-le-mul, le_refl}
 use native.Mathlib.Omega.{arith}
 use mathlib.Core.List.{List, [], ◌∷◌}
-use mathlib.Core.Path.{◌≡◌, refl}
 use lib.ListN.{length}
 use Rattle.ring.proofs.Promises.{bytes_are}
 use Rattle.book.specs.declared.Book.{Book}
 use Rattle.book.specs.Record.{slots_of, width_of, bytes_of}
 use Rattle.book.specs.Sound.{Sound}
-use Rattle.book.proofs.Promises.{bytes_needed_lem, book_lent, shape_cases}
+use Rattle.book.proofs.Promises.{bytes_needed_lem, book_lent}
 use Rattle.zones.specs.Stretches.{zone_at, stretch_start, all_bytes}
-use Rattle.zones.specs.Turns.{bytes_for}
-use Rattle.zones.proofs.BytesOfAZone.{bytes_small}
 use Rattle.zones.proofs.StartsInOrder.{start_within}
 
 module _ (book : Book) (sound : Sound book) where
-  -- the call that derives them is not refused
-  pub bytes_for_lem : bytes_for book ≡ bytes_of book
-  bytes_for_lem =
-      shape_cases (λ shape. shape.bytes ≡ bytes_of book) book.bound book.length book.tolerance (λ ranges. refl)
-      (λ out. absurd (out sound.ranges))
-
-  -- so they are few
+  -- they are few
   pub few_bytes : bytes_of book ≤ 8192
-  few_bytes = omega (arith, bytes_for_lem, bytes_small book)
+  few_bytes =
+      let lent = book_lent book.bound book.length book.tolerance (bytes_of book) sound.ranges (le_refl (bytes_of book)) in
+      let most : slots_of book * width_of book ≤ 4096 * 16 = mul-le-mul lent.slots_high lent.width_high in
+      omega (arith, most, bytes_needed_lem book.bound book.length book.tolerance, bytes_are (width_of book) (slots_of book))
 
   -- and not none: one slot of one bit at the least
   pub some_bytes : 1 ≤ bytes_of book

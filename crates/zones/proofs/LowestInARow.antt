@@ -14,13 +14,13 @@ use Rattle.refusals.specs.Call.{refusal_of, result_of}
 use Rattle.refusals.proofs.Laws.{first_append}
 use Rattle.refusals.proofs.Calls.{result_cases}
 use Rattle.book.specs.declared.Book.{Book}
-use Rattle.zones.specs.declared.Zoned.{Zoned}
+use Rattle.zones.specs.declared.told.Zoned.{Zoned}
 use Rattle.zones.specs.Stretches.{zone_at, all_bytes}
 use Rattle.zones.specs.Lowest.{record_refusal, taking_refusal, record_refusals, taking_refusals, refusal_of_lowest, lowest_zone}
-use Rattle.zones.proofs.InARow.{judged_faults, zone_in_arow, in_arow}
+use Rattle.zones.specs.InARow.{judged_faults, zone_in_arow, in_arow}
 use Rattle.zones.specs.Named.{LowestWith}
 use Rattle.zones.proofs.RefusalsByPlace.{records_many, record_at, takings_many, taking_from}
-use Rattle.zones.proofs.RefusalsOfMore.{records_8, takings_not_8}
+use Rattle.zones.proofs.RefusalNumbers.{records_8, takings_not_8}
 
 -- THE FIRST NUMBER THAT IS NOT 0 stands at its place, and before it there are zeros alone
 pub record FirstAt (numbers : List ℕ) (place number : ℕ) : Type 0 where

@@ -15,12 +15,12 @@ use Rattle.refusals.specs.Call.{refusal_of, result_of}
 use Rattle.refusals.proofs.Laws.{first_only}
 use Rattle.refusals.proofs.Calls.{result_cases}
 use Rattle.book.specs.declared.Book.{Book}
-use Rattle.zones.specs.declared.Zoned.{Zoned}
+use Rattle.zones.specs.declared.told.Zoned.{Zoned}
 use Rattle.zones.specs.Stretches.{zone_at}
 use Rattle.zones.specs.Lowest.{record_refusal, taking_refusal}
 use Rattle.zones.specs.Calls.{zone_with, add_all_call, add_one_call}
 use Rattle.zones.specs.Named.{LowestWith}
-use Rattle.zones.proofs.InARow.{early_of_all, early_of_one}
+use Rattle.zones.specs.InARow.{early_of_all, early_of_one}
 use Rattle.zones.proofs.LowestInARow.{named_with_8, named_with_17_or_7}
 use Rattle.zones.proofs.AsInARow.{one_refusal, one_result, all_result}
 

@@ -116,10 +116,6 @@ module _ (lent : ZonesAndRings) (zone item : ℕ) where
         (end_before_lem lent.zones k (omega arith) zone before))
         (le_or_lt zone k)
 
-    -- of a zone that is there
-    pub other_stretch : (k : ℕ) → k < length lent.zones → (k ≡ zone → ⊥) → stretch_of (added_zone lent zone item) k ≡ stretch_of lent k
-    other_stretch k there' = each_other_stretch k
-
     -- and all that lies behind the stretches
     pub behind_stays : drop (all_bytes lent.zones) (added_zone lent zone item).rings ≡ drop (all_bytes lent.zones) lent.rings
     unfolding added_zone

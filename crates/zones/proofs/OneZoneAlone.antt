@@ -8,7 +8,7 @@ use mathlib.Core.Path.{◌≡◌, refl, sym, ap, ◌∙◌}
 use lib.ListN.{length, drop}
 use Rattle.refusals.specs.Call.{refusal_of, left_of}
 use Rattle.book.specs.declared.Book.{Book}
-use Rattle.book.specs.declared.Updated.{Updated}
+use Rattle.book.specs.declared.told.Updated.{Updated}
 use Rattle.book.specs.Sound.{Usable}
 use Rattle.book.specs.Adding.{added, added_ring}
 use Rattle.book.proofs.Promises.{add_taken, add_gives}

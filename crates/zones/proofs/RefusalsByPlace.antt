@@ -20,7 +20,7 @@ use Rattle.book.specs.Calls.{room_fault, rest_fault, item_fault}
 use Rattle.book.proofs.Promises.{mark_known, mark_taken, mark_refusal}
 use Rattle.zones.specs.Stretches.{zone_at, all_bytes}
 use Rattle.zones.specs.Lowest.{record_refusal, taking_refusal, record_refusals, taking_refusals, refusal_of_lowest}
-use Rattle.zones.proofs.InARow.{judged_faults}
+use Rattle.zones.specs.InARow.{judged_faults}
 use Rattle.zones.specs.Sound.{TakesItem}
 
 -- THE LOWEST. It is 0 only where every number of the list is 0 …

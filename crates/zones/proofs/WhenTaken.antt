@@ -20,7 +20,7 @@ use Rattle.zones.specs.Stretches.{ZonesAndRings, zone_at, all_bytes}
 use Rattle.zones.specs.Adding.{added_zone, added_from}
 use Rattle.zones.specs.Lowest.{record_refusals, taking_refusals}
 use Rattle.zones.specs.Calls.{most_zones, how_many_fault, add_all_call, add_one_call}
-use Rattle.zones.proofs.InARow.{judged_faults}
+use Rattle.zones.specs.InARow.{judged_faults}
 use Rattle.zones.specs.Sound.{AllSound, TakesItem}
 use Rattle.zones.proofs.AsInARow.{one_refusal}
 use Rattle.zones.proofs.RefusalsByPlace.{lowest_of_none, records_many, record_at, takings_many, taking_from, record_passes, taking_passes, all_sound, EachTakes, each_takes, judged_passed}

@@ -5,7 +5,7 @@ use Rattle.refusals.specs.First.{Fault, ◌gives◌, passed_on, outside}
 use Rattle.refusals.specs.Call.{Call}
 use Rattle.book.specs.declared.Book.{Book}
 use Rattle.book.specs.Calls.{room_fault, rest_fault, item_fault}
-use Rattle.zones.specs.declared.Zoned.{Zoned}
+use Rattle.zones.specs.declared.told.Zoned.{Zoned}
 use Rattle.zones.specs.Stretches.{ZonesAndRings, zone_at, all_bytes}
 use Rattle.zones.specs.Adding.{added_zone, added_from}
 use Rattle.zones.specs.Lowest.{record_refusals, taking_refusals, refusal_of_lowest, lowest_zone}

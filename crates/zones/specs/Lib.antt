@@ -2,9 +2,9 @@ pub mod Stretches
 pub mod Adding
 pub mod Lowest
 pub mod Calls
-pub mod Turns
-pub mod Rounds
 pub mod Sound
+pub mod InARow
 pub mod AnyOrder
 pub mod Named
 pub mod Statements
+pub mod Told

@@ -3,7 +3,7 @@
 use Rattle.std.specs.Prelude.{ℕ, List, ◌≡◌}
 use Rattle.refusals.specs.Call.{Call, result_of, left_of}
 use Rattle.book.specs.declared.Book.{Book}
-use Rattle.zones.specs.declared.Zoned.{Zoned}
+use Rattle.zones.specs.declared.told.Zoned.{Zoned}
 use Rattle.zones.specs.Stretches.{ZonesAndRings}
 use Rattle.zones.specs.Calls.{add_all_call, add_one_call}
 

@@ -3,55 +3,62 @@
 
 #![tactic(auto)]
 
-ghost use Rattle.std.specs.Prelude.{◌≡◌};
+ghost use Rattle.std.specs.Prelude.{◌≡◌, ◌+◌, ◌≤◌, length};
 ghost use Rattle.refusals.specs.Call.{result_of, left_of};
-ghost use Rattle.zones.specs.Calls.{add_all_call, add_one_call};
-ghost use Rattle.zones.specs.Rounds.{RoundReady, after_turns};
+ghost use Rattle.zones.specs.Told.{as_zoned};
+ghost use Rattle.zones.specs.Calls.{most_zones, add_all_call, add_one_call};
+ghost use Rattle.zones.specs.InARow.{row_call};
 
 use book::Book;
-use round::Round;
+use refusals::Refusal;
 
-mod round;
+mod adding;
+mod judge;
+pub mod told;
 
-// A refusal number, 0 for none; with NO_BOOK, BOOK_RESTS and ITEM_TOO_LARGE the number of the zone that it is for, from 0, else 0.
-#[repr(C)]
+// Why a call is refused; and where a zone is to blame, for its record, its rest or its count, the number of that zone, from 0.
 #[derive(Clone, Copy)]
-pub struct Zoned {
-    pub refusal: u8,
-    pub zone: u64,
+pub struct ZoneRefusal {
+    pub refusal: Refusal,
+    pub zone: Option<u64>,
 }
 
 // Adds to every zone the count that stands in its place, to all of them or to none.
-pub fn add_all(zones: &mut [Book], rings: &mut [u8], counts: &[u64]) -> Zoned
-    ensures { (result ≡ result_of (add_all_call zones.old rings.old counts.now)) × (zones.new ≡ (left_of (add_all_call zones.old rings.old counts.now)).zones) × (rings.new ≡ (left_of (add_all_call zones.old rings.old counts.now)).rings) }
+pub fn add_all(zones: &mut [Book], rings: &mut [u8], counts: &[u64]) -> Result<(), ZoneRefusal>
+    ensures { (as_zoned result ≡ result_of (add_all_call zones.old rings.old counts.now)) × (zones.new ≡ (left_of (add_all_call zones.old rings.old counts.now)).zones) × (rings.new ≡ (left_of (add_all_call zones.old rings.old counts.now)).rings) }
 {
-    let start = round::of_all(zones.len(), counts.len());
-    go_round(zones, rings, counts, start)
+    if !judge::how_many(zones.len()) || counts.len() != zones.len() {
+        return Err(judge::of_call(Refusal::BadZones));
+    }
+    add_in_a_row(zones, rings, 0, counts)
 }
 
 // Adds one item to one zone.
-pub fn add_one(zones: &mut [Book], rings: &mut [u8], zone: u64, item: u64) -> Zoned
-    ensures { (result ≡ result_of (add_one_call zones.old rings.old zone item)) × (zones.new ≡ (left_of (add_one_call zones.old rings.old zone item)).zones) × (rings.new ≡ (left_of (add_one_call zones.old rings.old zone item)).rings) }
+pub fn add_one(
+    zones: &mut [Book],
+    rings: &mut [u8],
+    zone: u64,
+    item: u64,
+) -> Result<(), ZoneRefusal>
+    ensures { (as_zoned result ≡ result_of (add_one_call zones.old rings.old zone item)) × (zones.new ≡ (left_of (add_one_call zones.old rings.old zone item)).zones) × (rings.new ≡ (left_of (add_one_call zones.old rings.old zone item)).rings) }
 {
-    let start = round::of_one(zones.len(), zone);
-    let only = [item];
-    go_round(zones, rings, &only, start)
+    if !judge::how_many(zones.len()) || zones.len() as u64 <= zone {
+        return Err(judge::of_call(Refusal::BadZones));
+    }
+    add_in_a_row(zones, rings, zone as usize, &[item])
 }
 
-// Makes the turns of a round: each takes one record out, makes the turn with it, and puts the record that it leaves back.
-fn go_round(zones: &mut [Book], rings: &mut [u8], counts: &[u64], start: Round) -> Zoned
-    requires { RoundReady zones.old rings.old counts.now start }
-    ensures { (result ≡ (after_turns start.turns zones.old rings.old counts.now start).round.told) × (zones.new ≡ (after_turns start.turns zones.old rings.old counts.now start).zones) × (rings.new ≡ (after_turns start.turns zones.old rings.old counts.now start).rings) }
+// Adds the counts to as many zones in a row, from zone `low` on. All zones are judged before anything is changed.
+fn add_in_a_row(
+    zones: &mut [Book],
+    rings: &mut [u8],
+    low: usize,
+    counts: &[u64],
+) -> Result<(), ZoneRefusal>
+    requires { (low + length counts.now ≤ length zones.old) × (length zones.old ≤ most_zones) }
+    ensures { (as_zoned result ≡ result_of (row_call zones.old rings.old low counts.now)) × (zones.new ≡ (left_of (row_call zones.old rings.old low counts.now)).zones) × (rings.new ≡ (left_of (row_call zones.old rings.old low counts.now)).rings) }
 {
-    let turns = start.turns;
-    let mut round = start;
-    let mut i = 0;
-    while i < turns {
-        let place = round.place;
-        let old = zones[place];
-        round = round::turn(round, old, rings, counts);
-        zones[place] = round.book;
-        i += 1;
-    }
-    round.told
+    let start = judge::in_a_row(zones, rings, low, counts)?;
+    adding::in_a_row(zones, rings, low, start, counts);
+    Ok(())
 }

@@ -1,21 +1,25 @@
--- `zones::add_all` meets its contract: the round finds all that it asks, and what it comes to is what the call's row says.
+-- `zones::add_all`: the call is refused with 20, or it is adding to zones in a row.
 -- Assumes nothing.
-use Rattle.std.proofs.Common.{sym, ap, subst, ◌∙◌}
-use Rattle.zones.specs.declared.round.Round.{Round}
-use Rattle.zones.specs.Rounds.{RoundReady, after_turns}
-use Rattle.zones.proofs.TheRound.{ready_all, all_told, all_zones, all_rings}
+use Rattle.std.proofs.Common.{◌≡◌, true, false, refl, ap, ◌∙◌}
+use Rattle.zones.specs.Told.{refused_as}
+use Rattle.zones.specs.Stretches.{ZonesAndRings}
+use Rattle.zones.proofs.EarlyFaults.{all_20, all_fit}
 use Rattle.zones.proofs.add_all.Goals as goal
+use Rattle.zones.proofs.add_all.Goals.{then-not-how_many-via-then-not-how_many, then-not-how_many-via-else-not-how_many+then-counts-zones}
 
-pub go_round-requires : goal.go_round-requires
-go_round-requires c =
-    let a = c.args in
-    subst (RoundReady a.zones.now a.rings.now a.counts.now) (sym c.of_all-start.ensures) (ready_all a.zones.now a.rings.now a.counts.now)
+pub returns-then-not-how_many : goal.returns-then-not-how_many
+returns-then-not-how_many c =
+    let is = all_20 c.args.zones.now c.args.rings.now c.args.counts.now
+    (λ many fits. elim c.then-not-how_many.branch [
+      | then-not-how_many-via-then-not-how_many w ↦ (let no : false ≡ true = w.if-not-how_many.ensures.1 many in cc)
+      | then-not-how_many-via-else-not-how_many+then-counts-zones w ↦ w.if-counts-zones.true fits
+    ]) in
+    (ap refused_as c.of_call.ensures ∙ is.0, is.1, is.2)
 
 pub returns : goal.returns
 returns c =
-    let a = c.args in
-    let came = λ (start : Round). after_turns start.turns a.zones.now a.rings.now a.counts.now start in (
-      c.go_round.ensures.0 ∙ ap (λ start. (came start).round.told) c.of_all-start.ensures ∙ all_told a.zones.now a.rings.now a.counts.now,
-      c.go_round.ensures.1 ∙ ap (λ start. (came start).zones) c.of_all-start.ensures ∙ all_zones a.zones.now a.rings.now a.counts.now,
-      c.go_round.ensures.2 ∙ ap (λ start. (came start).rings) c.of_all-start.ensures ∙ all_rings a.zones.now a.rings.now a.counts.now,
+    let fits = all_fit c.args.zones.now c.args.rings.now c.args.counts.now (c.if-not-how_many.ensures.0 refl) c.if-counts-zones.false in (
+      c.add_in_a_row.ensures.0 ∙ fits.0,
+      c.add_in_a_row.ensures.1 ∙ ap (λ (lent : ZonesAndRings). lent.zones) fits.1,
+      c.add_in_a_row.ensures.2 ∙ ap (λ (lent : ZonesAndRings). lent.rings) fits.1,
     )

@@ -1,21 +1,25 @@
--- `zones::add_one` meets its contract: the round finds all that it asks, and what it comes to is what the call's row says.
+-- `zones::add_one`: the call is refused with 20, or it is adding to zones in a row.
 -- Assumes nothing.
-use Rattle.std.proofs.Common.{[], ◌∷◌, sym, ap, subst, ◌∙◌}
-use Rattle.zones.specs.declared.round.Round.{Round}
-use Rattle.zones.specs.Rounds.{RoundReady, after_turns}
-use Rattle.zones.proofs.TheRound.{ready_one, one_told, one_zones, one_rings}
+use Rattle.std.proofs.Common.{◌≡◌, true, false, refl, ap, ◌∙◌, arith}
+use Rattle.zones.specs.Told.{refused_as}
+use Rattle.zones.specs.Stretches.{ZonesAndRings}
+use Rattle.zones.proofs.EarlyFaults.{one_20, one_fits}
 use Rattle.zones.proofs.add_one.Goals as goal
+use Rattle.zones.proofs.add_one.Goals.{then-not-how_many-via-then-not-how_many, then-not-how_many-via-else-not-how_many+then-zones-zone}
 
-pub go_round-requires : goal.go_round-requires
-go_round-requires c =
-    let a = c.args in
-    subst (RoundReady a.zones.now a.rings.now (a.item ∷ [])) (sym c.of_one-start.ensures) (ready_one a.zones.now a.rings.now a.zone a.item)
+pub returns-then-not-how_many : goal.returns-then-not-how_many
+returns-then-not-how_many c =
+    let is = one_20 c.args.zones.now c.args.rings.now c.args.zone c.args.item
+    (λ many fits. elim c.then-not-how_many.branch [
+      | then-not-how_many-via-then-not-how_many w ↦ (let no : false ≡ true = w.if-not-how_many.ensures.1 many in cc)
+      | then-not-how_many-via-else-not-how_many+then-zones-zone w ↦ (let behind = w.if-zones-zone.true in omega arith)
+    ]) in
+    (ap refused_as c.of_call.ensures ∙ is.0, is.1, is.2)
 
 pub returns : goal.returns
 returns c =
-    let a = c.args in
-    let came = λ (start : Round). after_turns start.turns a.zones.now a.rings.now (a.item ∷ []) start in (
-      c.go_round.ensures.0 ∙ ap (λ start. (came start).round.told) c.of_one-start.ensures ∙ one_told a.zones.now a.rings.now a.zone a.item,
-      c.go_round.ensures.1 ∙ ap (λ start. (came start).zones) c.of_one-start.ensures ∙ one_zones a.zones.now a.rings.now a.zone a.item,
-      c.go_round.ensures.2 ∙ ap (λ start. (came start).rings) c.of_one-start.ensures ∙ one_rings a.zones.now a.rings.now a.zone a.item,
+    let fits = one_fits c.args.zones.now c.args.rings.now c.args.zone c.args.item (c.if-not-how_many.ensures.0 refl) c.if-zones-zone.false in (
+      c.add_in_a_row.ensures.0 ∙ fits.0,
+      c.add_in_a_row.ensures.1 ∙ ap (λ (lent : ZonesAndRings). lent.zones) fits.1,
+      c.add_in_a_row.ensures.2 ∙ ap (λ (lent : ZonesAndRings). lent.rings) fits.1,
     )

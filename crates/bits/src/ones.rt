@@ -1,0 +1,79 @@
+// Counting the ones of a row of bits: of eight bytes at a time while eight are there, of single bytes, and of a part of a byte at either end.
+ghost use Rattle.std.specs.Prelude.{◌≡◌, ◌+◌, ◌-◌, ◌*◌, ◌/◌, ◌%◌, ◌≤◌, ◌<◌, ◌^◌, length};
+ghost use Rattle.bits.specs.Row.{bits};
+ghost use Rattle.bits.specs.Ones.{ones_of, ones_between};
+
+// The ones of eight bytes: the compiler makes one load of them, and ones are counted alike in either order.
+fn of_eight(bytes: &[u8]) -> usize
+    requires { length bytes.now ≡ 8 }
+    ensures { result ≡ ones_of (bits bytes.now) }
+{
+    let word = u64::from_le_bytes([
+        bytes[0], bytes[1], bytes[2], bytes[3], bytes[4], bytes[5], bytes[6], bytes[7],
+    ]);
+    word.count_ones() as usize
+}
+
+// The ones of whole groups of eight bytes.
+fn of_eights(bytes: &[u8]) -> usize
+    requires whole { length bytes.now % 8 ≡ 0 }
+    requires few { length bytes.now * 8 < 2 ^ 64 }
+    ensures { result ≡ ones_of (bits bytes.now) }
+{
+    let mut sum = 0;
+    for eight in bytes.chunks_exact(8) {
+        sum += of_eight(eight);
+    }
+    sum
+}
+
+// The ones of bytes, one by one.
+fn of_singles(bytes: &[u8]) -> usize
+    requires { length bytes.now * 8 < 2 ^ 64 }
+    ensures { result ≡ ones_of (bits bytes.now) }
+{
+    let mut sum = 0;
+    for byte in bytes {
+        sum += byte.count_ones() as usize;
+    }
+    sum
+}
+
+// How many bits of the bytes are 1.
+pub fn of_bytes(bytes: &[u8]) -> usize
+    requires { length bytes.now * 8 < 2 ^ 64 }
+    ensures { result ≡ ones_of (bits bytes.now) }
+{
+    let (eights, rest) = bytes.split_at(bytes.len() / 8 * 8);
+    of_eights(eights) + of_singles(rest)
+}
+
+// The ones of the bits from `from` up to `to`, which lie in one byte. Where there are none the byte need not be there.
+fn of_part(row: &[u8], from: usize, to: usize) -> usize
+    requires order { from ≤ to }
+    requires one { to - from ≤ 8 - from % 8 }
+    requires there { to ≤ length row.now * 8 }
+    ensures { result ≡ ones_between from to row.now }
+{
+    if from == to {
+        return 0;
+    }
+    // The bits before `from` are cut off, and then those behind `to`.
+    let remaining = 8 - from % 8;
+    let part = row[from / 8] as u32 % (1 << remaining) >> (remaining - (to - from));
+    part.count_ones() as usize
+}
+
+// How many of the bits from `from` up to `to` are 1, the highest bit of a byte first. A run with no byte's border in it is one part of a byte.
+pub fn between(row: &[u8], from: usize, to: usize) -> usize
+    requires order { from ≤ to }
+    requires there { to ≤ length row.now * 8 }
+    ensures { result ≡ ones_between from to row.now }
+{
+    let first = from.div_ceil(8);
+    let last = to / 8;
+    if last < first {
+        return of_part(row, from, to);
+    }
+    of_part(row, from, first * 8) + of_bytes(&row[first..last]) + of_part(row, last * 8, to)
+}

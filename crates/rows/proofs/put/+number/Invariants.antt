@@ -1,5 +1,0 @@
--- `rows::put::number`: the number itself falls from call to call.
-use Rattle.rows.proofs.put.+number.Given as goal
-
-abbrev pub decreases-number : goal.decreases-number
-decreases-number l = l.n

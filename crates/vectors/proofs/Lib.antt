@@ -1,3 +1,0 @@
-pub mod PartOfAnArray
-pub mod Zeros
-pub mod ZonesInAnArray
