@@ -8,10 +8,8 @@ fn of_eight(bytes: &[u8]) -> usize
     requires { length bytes.now ≡ 8 }
     ensures { result ≡ ones_of (bits bytes.now) }
 {
-    let word = u64::from_le_bytes([
-        bytes[0], bytes[1], bytes[2], bytes[3], bytes[4], bytes[5], bytes[6], bytes[7],
-    ]);
-    word.count_ones() as usize
+    let eight: [u8; 8] = bytes.try_into().unwrap();
+    u64::from_le_bytes(eight).count_ones() as usize
 }
 
 // The ones of whole groups of eight bytes.
@@ -60,7 +58,7 @@ fn of_part(row: &[u8], from: usize, to: usize) -> usize
     }
     // The bits before `from` are cut off, and then those behind `to`.
     let remaining = 8 - from % 8;
-    let part = row[from / 8] as u32 % (1 << remaining) >> (remaining - (to - from));
+    let part = u32::from(row[from / 8]) % (1 << remaining) >> (remaining - (to - from));
     part.count_ones() as usize
 }
 

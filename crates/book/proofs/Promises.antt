@@ -91,3 +91,8 @@ pub use Rattle.book.proofs.NextSlot.{slot_after_cases}
 -- and none is where one item is repeated that is not
 pub use Rattle.book.proofs.RunInParts.{added_all_apart, added_ring_apart}
 pub use Rattle.book.proofs.LookingAtAll.{above_empty, above_cons, above_join, above_append, above_replicate, above_take, above_drop}
+-- A BOOK THAT WAS JUDGED, where a ring with its bytes is lent: it is in use, with its numbers. What the judge gives where a refusal is found, and
+-- where none is
+pub use Rattle.book.proofs.Ready.{ready, judged_number, judged_ready}
+-- its ring is lent whole, and its head is a slot
+pub use Rattle.book.proofs.StepsInRange.{ready_lent, ready_head}

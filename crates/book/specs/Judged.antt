@@ -1,4 +1,4 @@
--- What judging a book comes to. A device of the code: the contracts of private functions cite it, and no reader needs it.
+-- What judging a book comes to. A device of the code: the contracts of the judge cite it, here and where crates above ask it.
 use Rattle.std.specs.Prelude.{◌≡◌, ℕ, ◌≤◌, List, [], ◌∷◌, ◌++◌, Result, Ok}
 use Rattle.refusals.specs.declared.Refusal.{Refusal}
 use Rattle.refusals.specs.First.{Fault, first_of}

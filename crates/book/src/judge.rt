@@ -47,8 +47,8 @@ pub(crate) fn known(book: Book) -> Result<Known, Refusal>
     Ok(Known { book, shape })
 }
 
-// 8, then 4.
-pub(crate) fn usable(book: Book, lent: usize) -> Result<Known, Refusal>
+// 8, then 4: the book with its numbers, whose ring is lent whole.
+pub fn usable(book: Book, lent: usize) -> Result<Known, Refusal>
     ensures { Judged book lent result }
 {
     let known = known(book)?;

@@ -15,8 +15,8 @@ use verdicts::Notice;
 
 mod adding;
 mod distance;
-mod judge;
-mod known;
+pub mod judge;
+pub mod known;
 mod resting;
 mod running;
 pub mod shape;

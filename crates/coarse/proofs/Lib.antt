@@ -1,4 +1,5 @@
 pub mod WhenTaken
+pub mod AtHand
 pub mod AskedInOrder
 pub mod OldQuotients
 pub mod CoarserNumbers

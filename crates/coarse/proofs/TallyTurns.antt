@@ -14,7 +14,7 @@ use Rattle.book.specs.declared.RunRefusal.{RunRefusal}
 use Rattle.book.specs.Told.{as_ran}
 use Rattle.book.specs.Calls.{run_call}
 use Rattle.sums.specs.Beside.{SameAs}
-use Rattle.book.specs.declared.shape.Shape.{Shape}
+use Rattle.book.specs.Record.{width_of}
 use Rattle.book.specs.Derived.{slot_count}
 use Rattle.book.specs.RunOfCounts.{any_above, added_all, added_all_ring}
 use Rattle.book.proofs.Promises.{run_taken, run_gives, all_none, above_take, added_all_apart, added_ring_apart}
@@ -22,7 +22,7 @@ use Rattle.sums.specs.Row.{entries_for, added_all_row}
 use Rattle.sums.specs.Calls.{run_row_call}
 use Rattle.sums.proofs.Promises.{run_beside, run_ok, run_leaves_rest, row_none, row_apart, still_a_book}
 use Rattle.coarse.specs.Quotients.{quotients}
-use Rattle.coarse.specs.Steps.{OneBit, Takes}
+use Rattle.coarse.specs.Steps.{Takes}
 use Rattle.coarse.proofs.OldQuotients.{quotients_apart, quotients_small}
 
 -- A RUN of counts of at most 1 is taken by a tally, which is one still; what comes of it
@@ -89,10 +89,10 @@ going_start book ring blocks takes =
 module _ {book : Book} {ring : List ℕ} {blocks : ℕ} {fresh : Book} {second₀ row₀ : List ℕ} {tally : Book} {second row : List ℕ} {left : ℕ}
     (g : Going book ring blocks fresh second₀ row₀ tally second row left) where
   -- one part more: the first n quotients of those that are left
-  module _ {shape : Shape} (thin : OneBit book shape (length ring)) {n : ℕ} (few : n ≤ left) {part : List ℕ}
+  module _ (thin : width_of book ≡ 1) {n : ℕ} (few : n ≤ left) {part : List ℕ}
       (part_is : part ≡ take n (quotients book ring left)) where
     pub part_units : any_above 1 part ≡ false
-    part_units = rw part_is (above_take 1 n (quotients book ring left) (quotients_small book ring thin.thin left))
+    part_units = rw part_is (above_take 1 n (quotients book ring left) (quotients_small book ring thin left))
 
     pub going_step : {after : Book} {second' row' : List ℕ} → TakenIn tally second row part after second' row'
         → Going book ring blocks fresh second₀ row₀ after second' row' (left - n)

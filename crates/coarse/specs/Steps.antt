@@ -2,11 +2,8 @@
 use Rattle.std.specs.Prelude.{ℕ, ◌≤◌, List, [], ◌∷◌, ◌++◌, ◌≡◌}
 use Rattle.refusals.specs.First.{Fault, first_of}
 use Rattle.book.specs.declared.Book.{Book}
-use Rattle.book.specs.declared.shape.Shape.{Shape}
 use Rattle.book.specs.Resting.{awake}
-use Rattle.book.specs.Record.{width_of, shape_for}
 use Rattle.book.specs.Sound.{Usable}
-use Rattle.book.specs.Ready.{Ready}
 use Rattle.sums.specs.Row.{entries_of}
 use Rattle.sums.specs.Calls.{row_fault}
 use Rattle.coarse.specs.declared.judge.Judged.{Judged}
@@ -19,14 +16,9 @@ row_faults book lent times second row = coarse_faults book lent times second ++ 
 -- what is known once that is asked and nothing is refused
 pub record Passed (book : Book) (lent times second row : ℕ) (judged : Judged) : Type 0 where
   pub nothing : 0 ≡ first_of (row_faults book lent times second row)
-  pub ready : Ready book judged.shape lent
+  pub same : judged.known.book ≡ book
+  pub room : judged.known.shape.bytes ≤ lent
   pub bytes_are : judged.bytes ≡ coarser_bytes book times
-
--- a book with its numbers, a ring of so many bytes and slots of one bit
-pub record OneBit (book : Book) (shape : Shape) (lent : ℕ) : Type 0 where
-  pub usable : Usable book lent
-  pub shape_is : shape ≡ shape_for book
-  pub thin : width_of book ≡ 1
 
 -- a tally that takes quotients, where so many bytes of its ring and so many numbers of its row are lent
 pub record Takes (tally : Book) (second row : ℕ) : Type 0 where
@@ -34,14 +26,3 @@ pub record Takes (tally : Book) (second row : ℕ) : Type 0 where
   pub room : entries_of tally ≤ row
   pub up : tally.resting ≡ awake
   pub units : tally.bound ≡ 1
-
--- the numbers of a coarser record are far from 2^64
-pub record Small (book : Book) (times block blocks : ℕ) (tally : Book) : Type 0 where
-  pub tolerance_top : book.tolerance ≤ 268431360
-  pub times_top : times ≤ 16
-  pub carry_top : book.carry ≤ 536862720
-  pub phase_top : book.phase ≤ 4096
-  pub block_top : block ≤ 4096
-  pub blocks_top : blocks ≤ 4096
-  pub tally_carry_top : tally.carry ≤ 65536
-  pub tally_phase_top : tally.phase ≤ 4096

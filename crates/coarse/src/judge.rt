@@ -5,18 +5,19 @@ ghost use Rattle.refusals.specs.Refused.{number_of};
 ghost use Rattle.coarse.specs.Steps.{row_faults, Passed};
 
 use book::Book;
-use book::shape::Shape;
+use book::judge::usable;
+use book::known::Known;
 use refusals::Refusal;
-use sums::judge::{room_for_ring, room_for_row, usable};
+use sums::judge::{room_for_ring, room_for_row};
 
 const FEWEST_TIMES: u64 = 2;
 
 const MOST_TIMES: u64 = 16;
 
-// Where nothing is refused: the numbers of the book, and the bytes that the second ring takes.
+// Where nothing is refused: the book with its numbers, and the bytes that the second ring takes.
 #[derive(Clone, Copy)]
 pub(crate) struct Judged {
-    pub(crate) shape: Shape,
+    pub(crate) known: Known,
     pub(crate) bytes: u64,
 }
 
@@ -30,21 +31,18 @@ pub(crate) fn coarser(
 ) -> Result<Judged, Refusal>
     ensures { MatchResult result (λ judged. Passed book ring times second row judged) (λ refusal. number_of refusal ≡ first_of (row_faults book ring times second row)) }
 {
-    let shape = usable(book, ring)?;
+    let known = usable(book, ring)?;
     if book.tolerance % book.bound != 0 {
         return Err(Refusal::CannotCoarsen);
     }
-    if times < FEWEST_TIMES {
-        return Err(Refusal::CannotCoarsen);
-    }
-    if MOST_TIMES < times {
+    if times < FEWEST_TIMES || MOST_TIMES < times {
         return Err(Refusal::CannotCoarsen);
     }
     let coarser = book::shape::derive(book.bound, book.length, times * book.tolerance)?;
     room_for_ring(coarser, second)?;
     room_for_row(coarser, row)?;
     Ok(Judged {
-        shape,
+        known,
         bytes: coarser.bytes,
     })
 }

@@ -3,13 +3,13 @@
 
 #![tactic(auto)]
 
-ghost use Rattle.std.specs.Prelude.{◌≡◌, ◌+◌, ◌*◌};
+ghost use Rattle.std.specs.Prelude.{◌≡◌, ◌+◌, ◌*◌, ◌≤◌};
 ghost use Rattle.refusals.specs.Call.{result_of, left_of};
 ghost use Rattle.coarse.specs.Told.{as_coarser};
 ghost use Rattle.coarse.specs.Calls.{coarsen_call, coarsen_row_call};
-ghost use Rattle.coarse.specs.Steps.{Small};
 
 use book::Book;
+use book::known::Known;
 use refusals::Refusal;
 
 mod judge;
@@ -45,11 +45,11 @@ pub fn coarsen_row(
     ensures { (as_coarser book result ≡ result_of (coarsen_row_call book ring.now times second.old row.old)) × (second.new ≡ (left_of (coarsen_row_call book ring.now times second.old row.old)).ring) × (row.new ≡ (left_of (coarsen_row_call book ring.now times second.old row.old)).row) }
 {
     let judged = judge::coarser(book, ring.len(), times, second.len(), row.len())?;
-    let shape = judged.shape;
-    let fresh = sums::open(1, shape.slots, times, second, row).unwrap();
-    let blocks = (book.kept - book.phase) / shape.block;
-    let all = tally::all(book, shape, ring, blocks, fresh, second, row);
-    let next = with_tally(book, times, shape.block, blocks, all);
+    let known = judged.known;
+    let fresh = sums::open(1, known.shape.slots, times, second, row).unwrap();
+    let blocks = (book.kept - book.phase) / known.shape.block;
+    let all = tally::all(known, ring, blocks, fresh, second, row);
+    let next = with_tally(known, times, blocks, all);
     Ok(Coarsened {
         bytes: judged.bytes,
         book: next,
@@ -57,10 +57,13 @@ pub fn coarsen_row(
 }
 
 // The record of the coarser book: the old one's, with what the tally counts.
-fn with_tally(book: Book, times: u64, block: u64, blocks: u64, tally: Book) -> Book
-    requires { Small book times block blocks tally }
-    ensures { result ≡ record { bound = book.bound; length = book.length; tolerance = times * book.tolerance; carry = book.carry + book.tolerance * tally.carry; phase = book.phase + tally.phase * block; kept = book.phase + blocks * block; head = tally.head; resting = book.resting } }
+#[tactic(auto, using(crate::proofs::AtHand::known_sizes))]
+fn with_tally(known: Known, times: u64, blocks: u64, tally: Book) -> Book
+    requires { (times ≤ 16) × (blocks ≤ known.shape.slots) × (tally.carry ≤ 65536) × (tally.phase ≤ 4096) }
+    ensures { result ≡ record { bound = known.book.bound; length = known.book.length; tolerance = times * known.book.tolerance; carry = known.book.carry + known.book.tolerance * tally.carry; phase = known.book.phase + tally.phase * known.shape.block; kept = known.book.phase + blocks * known.shape.block; head = tally.head; resting = known.book.resting } }
 {
+    let book = known.book;
+    let block = known.shape.block;
     Book {
         tolerance: times * book.tolerance,
         carry: book.carry + book.tolerance * tally.carry,

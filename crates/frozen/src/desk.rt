@@ -11,6 +11,9 @@ pub(crate) const BUFFER_BYTES: usize = 262144;
 const MOVE_AT: usize = 200000;
 
 // The state, where the image before starts, where the bytes at hand start, and where they end.
+// Places in a lent array and no Vec: memory is fixed, and bytes are read behind `end` while those before it are in use.
+// `Fits` is no ghost field: `with_more`, `at_start` and `desk_after` (specs/) build desks of any numbers, and a second record for them would be
+// longer than the six clauses.
 #[derive(Clone, Copy)]
 pub(crate) struct Desk {
     pub(crate) state: State,

@@ -46,6 +46,8 @@ fn fill<R: Read, E: Write>(input: &mut R, errors: &mut E, buf: &mut [u8], end: u
     }
 }
 
+// The three streams and the buffers stay parameters: a struct of them would have as many type parameters and places, and the clauses here would
+// name them all the same. That less than an image is at hand is no field: it holds only where the program reads.
 // Makes room and reads. With less than an image at hand there is always room, so that nothing read means the end.
 fn receive<R: Read, E: Write>(
     input: &mut R,
@@ -96,8 +98,8 @@ fn send<W: Write, E: Write>(output: &mut W, errors: &mut E, bytes: &[u8]) -> io:
     sent
 }
 
-// Rounds, each written before the next one reads, until the input ends or is refused, or the output cannot be written: without an
-// error the output is whole. The count of the loop stands for "for ever": each round but the last takes a byte, or reads one before it.
+// Rounds, each written before the next one reads, until the input ends or is refused, or the output cannot be written. Where
+// it gives no error the output is whole. The count of the loop stands for "for ever": each round but the last takes a byte, or reads one before it.
 fn rounds<R: Read, W: Write, E: Write>(
     input: &mut R,
     output: &mut W,

@@ -19,7 +19,7 @@ pub(crate) enum Go {
 // So many turns that the rows' buffer has room for a line, 96 bytes, of each.
 const TURNS: usize = 42;
 
-// The desk after some turns, how many bytes of rows wait to be written, and how to go on.
+// The desk after some turns, how many bytes of rows wait to be written, and how to go on. (`full` and no Vec: memory is fixed.)
 #[derive(Clone, Copy)]
 pub(crate) struct Round {
     pub(crate) desk: Desk,

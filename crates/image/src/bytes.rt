@@ -66,6 +66,7 @@ fn behind_comment(s: &[u8], used: usize) -> usize
     end
 }
 
+// The slice and the bytes used stay two parameters: a reader lent by `&mut` would have to say how it stands after a refusal too.
 // The header byte after the first `used` bytes, comments passed over.
 pub(crate) fn next(s: &[u8], used: usize) -> Result<Took<u8>, Refusal>
     ensures { told s.now result ≡ next_byte (end_of s.now) (ahead s.now used) }

@@ -69,6 +69,7 @@ fn first_digit(s: &[u8], used: usize) -> Result<Took<u8>, Refusal>
     ensures is_digit { IfOk result (λ took. digit took.value ≡ true) }
 {
     let mut at = used;
+    // Not over a range: the next turn is at the place that `next` and `skip_white` come to.
     loop {
         let took = bytes::next(s, at)?;
         if took.value.is_ascii_digit() {
@@ -92,6 +93,7 @@ pub(crate) fn number(s: &[u8], used: usize, top: usize) -> Result<Took<usize>, R
     let first = first_digit(s, used)?;
     let mut value = usize::from(first.value - b'0');
     let mut at = first.used;
+    // Not over a range: the next turn is at the place that `next` comes to, behind comments.
     loop {
         let took = bytes::next(s, at)?;
         if took.value.is_ascii_digit() {

@@ -61,8 +61,8 @@ impl Pixel for u16 {
     }
 }
 
-// The largest of four times `quarter` pixels. One pass that LLVM turns into vector instructions: nothing in the loop but the larger of two
-// pixels; with four quarters side by side each turn takes four times as many. (As one chain of an iterator's methods over all of them it
+// The largest of four times `quarter` pixels. One pass that LLVM turns into vector instructions: nothing in the loop but the pixel and the
+// larger of two; with four quarters side by side each turn takes four times as many. (As one chain of an iterator's methods over all of them it
 // took 43% more instructions for bytes.)
 #[tactic(auto, unfolding(crate::specs::Told::largest))]
 fn largest_of_quarters<P: Pixel>(raster: &[u8], quarter: usize) -> P

@@ -21,7 +21,8 @@ mod pixels;
 pub mod told;
 mod took;
 
-// The byte of the sign behind `P`, of an image and of a mask, and the largest maxval, as specs/Kinds.antt has them.
+// The byte of the sign behind `P`, of an image and of a mask, and the largest maxval, as specs/Kinds.antt has them. (The
+// format's own bytes, no numbers of ours.)
 const GRAY: u8 = b'5';
 
 const BITS: u8 = b'4';
@@ -47,7 +48,7 @@ pub fn header(s: &[u8]) -> Result<Layout, Refusal>
     pixels::judge(s, sides.value, maxval)
 }
 
-// The numbers of the mask at the start of the slice; it has no maxval, which is 0.
+// The numbers of the mask at the start of the slice; it has no maxval, which is 0: `mask_numbers_of` says so.
 pub fn mask_header(s: &[u8]) -> Result<Layout, Refusal>
     ensures { as_numbers result ≡ mask_numbers_of s.now }
 {

@@ -14,7 +14,7 @@ pub record Stopped (row : List ℕ) (k size at before : ℕ) : Type 0 where
   pub passed : Passed row k at before
   pub here : (length row < at + size) ⊎ (k ≤ rank_of ((at + size) * 8) (bits row))
 
--- a place, as select tells it by 0 where there is none
+-- a place that is 0 where there is none, as an option
 abbrev pub found : ℕ → Option ℕ
 found zero = None
 found (suc place) = Some (suc place)

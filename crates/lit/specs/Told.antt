@@ -4,6 +4,6 @@ use Rattle.refusals.specs.declared.Refusal.{Refusal}
 use Rattle.refusals.specs.Refused.{in_numbers}
 use Rattle.lit.specs.declared.Answer.{Answer}
 
--- a number, or a refusal with the number 0
+-- a refusal number, 0 for none, and a number, which is 0 at a refusal
 abbrev pub as_answer : Result ℕ Refusal → Answer
 as_answer = in_numbers (λ value. record { refusal = 0; value = value }) (λ number. record { refusal = number; value = 0 })

@@ -1,5 +1,5 @@
 // Lit frames, one bit a frame, packed as a PBM row: how many of the first i are lit, where the k-th lit one is, and both with a step.
-// What each call answers is its row in specs/Calls.antt.
+// What each call answers is its row in specs/Calls.antt. The calls take the row and its count one by one, as C hands them in.
 
 #![tactic(auto)]
 
@@ -16,7 +16,7 @@ mod good_row;
 mod search;
 mod table;
 
-// A number, or a refusal with the number 0: as C is told it.
+// A refusal number, 0 for none, and a number, which is 0 at a refusal: as C is told it. C has a struct of its own for each.
 #[repr(C)]
 #[derive(Clone, Copy)]
 pub struct Answer {

@@ -53,7 +53,7 @@ fn place(bytes: &[u8], count: usize, k: usize, spot: Spot) -> Option<usize>
     ensures { result ≡ found (select_of k (frames bytes.now count)) }
 {
     let byte = *bytes.get(spot.at)?;
-    let place = spot.at * 8 + table::in_byte(byte, k - spot.before) as usize;
+    let place = spot.at * 8 + usize::from(table::in_byte(byte, k - spot.before));
     (place <= count).then_some(place)
 }
 
@@ -88,9 +88,6 @@ impl<'a> GoodRow<'a> {
         if t == 0 {
             return 1;
         }
-        match self.kth(t) {
-            Some(place) => place + 1,
-            None => 1,
-        }
+        self.kth(t).map_or(1, |place| place + 1)
     }
 }

@@ -78,5 +78,5 @@ pub(crate) fn in_byte(byte: u8, k: usize) -> u8
     if k == 0 || 8 < k {
         return 0;
     }
-    PLACES[byte as usize * 8 + (k - 1)]
+    PLACES[usize::from(byte) * 8 + (k - 1)]
 }

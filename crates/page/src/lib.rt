@@ -38,7 +38,8 @@ pub struct Ticks {
     pub present: u32,
 }
 
-// The newest picture if the verdict on the window and the amount is live, otherwise the older one.
+// The newest picture if the verdict on the window and the amount is live, otherwise the older one. (The parameters are those of public calls,
+// and C has the same: a struct of them would ask something else of callers.)
 pub fn show(
     book: Book,
     ring: &[u8],

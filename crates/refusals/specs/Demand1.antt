@@ -45,7 +45,7 @@ pub record Demand1 {Result Lent : Type 0} (number_in : Result → ℕ) (call : C
       → (number_in result ≡ number) × (result ≡ call.back number) × (after ≡ call.lent)
 
 -- A function's statement, over its arguments, its result and its parameters as it returns, says what a row says.
--- shown: what a caller can see of the result, who knows the arguments too. after: what was lent, as the function returns.
+-- shown: what a caller, who knows the arguments too, can see of the result. after: what was lent, as the function returns.
 abbrev pub States : {Args Result Exit Shown Lent : Type 0} → (Args → Result → Exit → Type 0) → (Args → Result → Shown) → (Args → Exit → Lent)
     → (Args → Call Shown Lent) → Type 0
 States {Args} {Result} {Exit} Post shown after call =

@@ -1,5 +1,5 @@
-// What all calls share: the refusals with their numbers (SCOPE, Refusals), how the first one that applies is found, and what a refusal leaves as
-// it was. No call is made here.
+// What all calls share: the refusals with their numbers (SCOPE, Refusals). How the first one that applies is found, and what a refusal leaves as
+// it was, stands in specs/. No call is made here.
 
 #![tactic(auto)]
 
@@ -35,7 +35,7 @@ pub enum Refusal {
 }
 
 impl Refusal {
-    // The number by which C and the rows of the program tell it.
+    // The number by which C and the rows of the program tell it. No `From`, which is no plainer: its callers would need a type beside it.
     pub fn number(self) -> u8
         ensures { result ≡ number_of self }
     {

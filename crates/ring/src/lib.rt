@@ -1,5 +1,6 @@
 // A ring of packed small numbers in bytes that the caller lends: clear, read a slot, write a slot, sum the newest slots.
-// Every call with every slice and every number answers; what it answers and leaves is its row in specs/Calls.antt.
+// Every call with every slice and every number answers; what it answers and leaves is its row in specs/Calls.antt. The calls take the width, the
+// slots and the ring one by one, as C hands them in.
 
 #![tactic(auto)]
 
@@ -15,7 +16,7 @@ mod judge;
 mod slot;
 mod word;
 
-// A number, or a refusal with the number 0: as C is told it.
+// A refusal number, 0 for none, and a number, which is 0 at a refusal: as C is told it. C has a struct of its own for each.
 #[repr(C)]
 #[derive(Clone, Copy)]
 pub struct Answer {

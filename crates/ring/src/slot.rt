@@ -9,7 +9,8 @@ use crate::word::Place;
 use bits::ones;
 
 // How wide a ring's slots are, and how many it has. Made where both are known to be in range (judge.rt). The ring's bytes are handed in at each
-// call, since those that are read are lent by `&` and those that are written by `&mut`: a value that holds them would be needed twice.
+// call, since those that are read are lent by `&` and those that are written by `&mut`: a value that holds them would be needed twice. That a slot is
+// one of them each function asks by itself: a type for a slot would be no plainer, as it would carry the count that `Slots` has.
 #[derive(Clone, Copy)]
 pub(crate) struct Slots {
     pub(crate) width: usize,

@@ -16,12 +16,7 @@ pub(crate) fn load_four(ring: &[u8], first: usize) -> u64
     requires { first + 4 ≤ length ring.now }
     ensures { result ≡ number (bits (take 4 (drop first ring.now))) }
 {
-    let four = [
-        ring[first],
-        ring[first + 1],
-        ring[first + 2],
-        ring[first + 3],
-    ];
+    let four: [u8; 4] = ring[first..first + 4].try_into().unwrap();
     u64::from(u32::from_be_bytes(four))
 }
 

@@ -65,7 +65,7 @@ pub fn row(
 }
 
 // The row of a frame that was refused, with the number of the refusal.
-// A number: the row is promised for every byte, and not for those alone that are a refusal's.
+// The refusal is a number: the clause `told` promises the row for every byte, and a `Refusal` would ask more of callers.
 pub fn refused(out: &mut [u8], frame: u64, refusal: u8) -> Result<usize, Refusal>
     ensures told { (as_wrote result ≡ result_of (line_call out.old (refused_text frame refusal))) × (out.new ≡ left_of (line_call out.old (refused_text frame refusal))) }
     ensures room { IfOk result (λ length. length ≤ line_most) }

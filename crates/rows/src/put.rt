@@ -6,7 +6,7 @@ ghost use Rattle.rows.specs.Appended.{Appended};
 
 use crate::Word;
 
-// The buffer, and the place behind what is written of the line.
+// The buffer, and the place behind what is written of the line. (How much room is left is no ghost field: each method asks for another room.)
 #[derive(Drop)]
 pub(crate) struct Line<'a> {
     pub(crate) out: &'a mut [u8],
@@ -32,8 +32,7 @@ impl Line<'_> {
     }
 
     // The digits of a number: those of its tenth, and then its last one.
-    // By hand: of `write!` nothing says when it is an error, while a line that has room is never refused; and these crates stand on std
-    // alone.
+    // By hand: no clause of `write!` says that it succeeds where there is room, and a line that has room must not be refused.
     pub(crate) fn number(&mut self, n: u64)
         requires { self.old.at + length (decimal n) ≤ length self.old.out.now }
         ensures { Appended self.old (decimal n) self.new }
@@ -86,7 +85,7 @@ impl Line<'_> {
     }
 }
 
-// The byte of a digit.
+// The byte of a digit. (By `as`: it is below 10 by the `requires`, and no `From` goes from u64 to u8.)
 fn digit(d: u64) -> u8
     requires { d < 10 }
     ensures { result ≡ digit_byte d }

@@ -1,49 +1,29 @@
--- How the code of both calls goes: it asks 8 and 4 by a total of no items, then 21, then 18, and a refusal hands all back; and what it makes of
--- its parts once nothing is refused.
+-- How the code of both calls goes: it asks 8 and 4 as the book does, then 21, then 18, and a refusal hands all back; and what it makes of its
+-- parts once nothing is refused.
 -- Assumes nothing.
-use Prim.Native.Nat.{ℕ, ◌≤◌, ◌<◌}
-use native.Mathlib.Nat.{le_trans}
-use native.Mathlib.Omega.{arith}
+use Prim.Native.Nat.{ℕ, ◌≤◌}
 use mathlib.Core.List.{List, [], ◌∷◌}
-use mathlib.Core.Path.{◌≡◌, refl, sym, ap, ◌∙◌}
-use borrow.Author.Tests.{lt-ltb}
+use mathlib.Core.Path.{◌≡◌, refl, sym, ap, subst, ◌∙◌}
 use lib.ListN.{length}
-use Rattle.refusals.specs.Numbers.{numbers_too_short}
-use Rattle.refusals.specs.First.{first_of}
 use Rattle.refusals.specs.Call.{refusal_of, result_of, left_of}
 use Rattle.refusals.proofs.Laws.{first_stops}
 use Rattle.refusals.proofs.Calls.{result_refused, left_refused}
-use Rattle.ring.specs.Slot.{field}
 use Rattle.book.specs.declared.Book.{Book}
-use Rattle.book.specs.declared.shape.Shape.{Shape}
-use Rattle.book.specs.Record.{block_of, slots_of, held_in, record_with}
-use Rattle.book.specs.Calls.{book_faults}
-use Rattle.book.proofs.Promises.{slots_top}
-use Rattle.sums.specs.Row.{entries_for, entries_of}
+use Rattle.book.specs.declared.known.Known.{Known}
+use Rattle.book.specs.Record.{shape_for, slots_of, held_in, record_with}
+use Rattle.book.specs.Sound.{Usable}
+use Rattle.sums.specs.Row.{entries_of}
 use Rattle.sums.specs.Calls.{row_fault}
 use Rattle.salvage.specs.declared.told.Salvaged.{Salvaged}
 use Rattle.salvage.specs.Altered.{altered, how_new}
 use Rattle.salvage.specs.Salvaged.{capped, tail_cleared, salvaged_ring, listed, kept_for, salvaged_record}
 use Rattle.salvage.specs.Rebuilt.{rebuilt_row}
-use Rattle.salvage.specs.Calls.{RingAndNumbers, RingNumbersAndRow, numbers_fault, salvage_call, salvage_row_call}
+use Rattle.salvage.specs.Calls.{RingAndNumbers, RingNumbersAndRow, salvage_call, salvage_row_call}
 use Rattle.salvage.specs.After.{book_after, ring_after, book_after_row, both_after}
-use Rattle.book.specs.Ready.{Ready}
-use Rattle.salvage.proofs.AlteredSlots.{how_new_high}
-use Rattle.salvage.proofs.AtHand.{ready_entries, block_is, ready_block}
+use Rattle.salvage.proofs.AtHand.{known_usable}
 use Rattle.salvage.proofs.EachField.{salvaged_is}
-use Rattle.salvage.proofs.WhenTaken.{salvage_faults, usable_then_21, salvage_refusal, salvage_gives}
+use Rattle.salvage.proofs.WhenTaken.{salvage_faults, salvage_refusal, salvage_taken, salvage_gives}
 use Rattle.salvage.proofs.WhenTaken.{salvage_row_refusal, salvage_row_taken, salvage_row_gives}
-
--- ASKING: 8 and 4 come first, then 21
-module _ (book : Book) (lent entries : ℕ) where
-  pub book_first : {number : ℕ} → number ≡ first_of (book_faults book lent) → (number ≡ 0 → ⊥) → number ≡ first_of (salvage_faults book lent entries)
-  book_first {number} found some = first_stops (book_faults book lent) (numbers_fault book entries ∷ []) number found some
-
-  pub short_numbers : {shape : Shape} → Ready book shape lent → entries < shape.slots → numbers_too_short ≡ first_of (salvage_faults book lent entries)
-  short_numbers ready few =
-      sym
-      (usable_then_21 book lent entries ready.usable
-      ∙ rw (lt-ltb entries (slots_of book) (rw (ap (λ (s : Shape). s.slots) ready.shape_is) at few)))
 
 -- A REFUSAL hands the record back as it came, with 0 slots, and leaves what was lent
 module _ (book : Book) (ring numbers : List ℕ) where
@@ -98,17 +78,19 @@ module _ (book : Book) (ring numbers : List ℕ) where
         let back = handed_back_row refl some refl in
         (ap (λ (r : Salvaged). r.book) (sym back.0), λ i. record { ring = sym back.1 i; row = sym back.3 i })
 
--- ONCE THE RING WAS GONE THROUGH: what kept is reckoned of is small, and the block is the book's
-pub found_small : (book : Book) (ring : List ℕ) {shape : Shape} {u : ℕ} → u ≡ how_new book ring → Ready book shape (length ring)
-    → (u ≤ 4096) × (shape.block ≤ 4096) × (book.phase ≤ 4096) × (shape.block ≡ block_of book)
-found_small book ring found_is at_hand = (
-  rw found_is (le_trans (how_new_high book ring) (slots_top book at_hand.usable.sound)),
-  ready_block at_hand,
-  omega (arith, at_hand.usable.sound.phase_high, rw at_hand.shape_is at (ready_block at_hand)),
-  block_is at_hand,
-)
+-- WHAT WAS JUDGED is the book that was asked for, so that the call without a row is taken
+module _ (known : Known) {book : Book} (same : known.book ≡ book) where
+  pub numbers_are : known.shape ≡ shape_for book
+  numbers_are = known.derived ∙ ap shape_for same
 
--- the record is made of what was found
+  in_use : {lent : ℕ} → known.shape.bytes ≤ lent → Usable book lent
+  in_use {lent} room = subst (λ (b : Book). Usable b lent) same (known_usable known room)
+
+  pub judged_taken : (ring numbers : List ℕ) → known.shape.bytes ≤ length ring → known.shape.slots ≤ length numbers
+      → refusal_of (salvage_call book ring numbers) ≡ 0
+  judged_taken ring numbers room entries = salvage_taken book ring numbers (in_use room) (rw numbers_are at entries)
+
+-- ONCE THE RING WAS GONE THROUGH: the record is made of what was found
 pub record_is : (book : Book) (ring : List ℕ) {u kept : ℕ} → u ≡ how_new book ring → kept ≡ kept_for book u
     → record_with book book.carry book.phase kept book.head ≡ salvaged_record book ring
 record_is book ring found_is kept_is =
@@ -134,19 +116,18 @@ module _ (book : Book) (ring numbers : List ℕ) (taken : refusal_of (salvage_ca
         numbers_are ∙ sym (ap (λ (l : RingAndNumbers). l.numbers) gives.1),
       )
 
-  module _ (row : List ℕ) {shape : Shape} (at_hand : Ready book shape (length ring)) (room : entries_for shape.slots ≤ length row) {row' : List ℕ}
-      (rebuilt : row' ≡ rebuilt_row shape.slots (field shape.width ring') row) where
+  module _ (row : List ℕ) (room : entries_of book ≤ length row) {row' : List ℕ}
+      (rebuilt : row' ≡ rebuilt_row (slots_of book) (held_in book ring') row) where
     -- the row was rebuilt from the ring as it was left
     row_is : row' ≡ rebuilt_row (slots_of book) (held_in book (salvaged_ring book ring)) row
-    row_is = rebuilt ∙ (λ i. rebuilt_row (at_hand.shape_is i).slots (field (at_hand.shape_is i).width (left_is i)) row)
+    row_is = rebuilt ∙ ap (λ (r : List ℕ). rebuilt_row (slots_of book) (held_in book r) row) left_is
 
     pub as_called_with_row : (done ≡ result_of (salvage_row_call book ring numbers row))
         × (ring' ≡ (left_of (salvage_row_call book ring numbers row)).ring)
         × (numbers' ≡ (left_of (salvage_row_call book ring numbers row)).numbers)
         × (row' ≡ (left_of (salvage_row_call book ring numbers row)).row)
     as_called_with_row =
-        let enough = rw (ready_entries at_hand) at room in
-        let gives = salvage_row_gives book ring numbers row (salvage_row_taken book ring numbers row taken enough) in (
+        let gives = salvage_row_gives book ring numbers row (salvage_row_taken book ring numbers row taken room) in (
           done_is ∙ sym gives.0,
           left_is ∙ sym (ap (λ (l : RingNumbersAndRow). l.ring) gives.1),
           numbers_are ∙ sym (ap (λ (l : RingNumbersAndRow). l.numbers) gives.1),

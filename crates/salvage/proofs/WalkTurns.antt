@@ -5,13 +5,10 @@ use native.Mathlib.Omega.{arith}
 use mathlib.Core.Bool.{Bool, true, false, cond}
 use mathlib.Core.List.{List, []}
 use mathlib.Core.Path.{◌≡◌, refl, sym, ap, ◌∙◌}
-use lib.Dec.{ltb}
 use lib.ListN.{length, set}
-use Rattle.ring.specs.Newest.{newest}
-use Rattle.ring.specs.Slot.{field, written}
+use Rattle.ring.specs.Slot.{written}
 use Rattle.book.specs.declared.Book.{Book}
-use Rattle.book.specs.declared.shape.Shape.{Shape}
-use Rattle.book.specs.Record.{shape_for, slots_of, largest_of, width_of}
+use Rattle.book.specs.Record.{slots_of, largest_of, width_of}
 use Rattle.book.specs.Sound.{Usable}
 use Rattle.salvage.specs.Altered.{newest_slot, too_large, altered, how_new}
 use Rattle.salvage.specs.Salvaged.{capped, listed}
@@ -79,42 +76,33 @@ module _ {book : Book} {ring₀ numbers₀ ring numbers : List ℕ} {count nth�
       }
 
   -- the next slot as the code has it: its number, its field's test, and the ring after it
-  module _ {shape : Shape} (Shape-is : shape ≡ shape_for book) (some : 0 < j) {slot : ℕ} (slot_is : slot ≡ newest shape.slots book.head j)
-    where
-      abbrev above : Bool
-      above = ltb shape.largest (field shape.width ring slot)
+  module _ (some : 0 < j) {slot : ℕ} (slot_is : slot ≡ newest_slot book j) where
+    above_is : too_large book ring (newest_slot book j) ≡ too_large book ring slot
+    above_is = ap (too_large book ring) (sym slot_is)
 
-      place_is : slot ≡ newest_slot book j
-      place_is = slot_is ∙ (λ i. newest (Shape-is i).slots book.head j)
+    module _ {ring' : List ℕ} (ring_is : ring' ≡ cond (too_large book ring slot) (written (width_of book) ring slot (largest_of book)) ring)
+        {numbers' : List ℕ} {count' nth' : ℕ} where
+      -- it is altered
+      pub going_alters : true ≡ too_large book ring slot → numbers' ≡ set numbers count slot → count' ≡ count + 1 → nth' ≡ j
+          → Going book ring₀ numbers₀ (walk_of ring' numbers' count' nth') (j - 1)
+      going_alters large numbers-is count_is nth-is =
+          let written_is : ring' ≡ written (width_of book) ring (newest_slot book j) (largest_of book) =
+          ring_is ∙ ap (λ (t : Bool). cond t (written (width_of book) ring slot (largest_of book)) ring) (sym large)
+          ∙ ap (λ (k : ℕ). written (width_of book) ring k (largest_of book)) slot_is in
+          let listed_is : numbers' ≡ set numbers count (newest_slot book j) = numbers-is ∙ ap (set numbers count) slot_is in
+          going_by some (walk_of ring' numbers' count' nth')
+          (step_alters book j here (above_is ∙ sym large) ∙ sym (λ i. walk_of (written_is i) (listed_is i) (count_is i) (nth-is i)))
+          (omega (arith, count_is))
 
-      above_is : above ≡ too_large book ring (newest_slot book j)
-      above_is = λ i. ltb (Shape-is i).largest (field (Shape-is i).width ring (place_is i))
-
-      module _ {ring' : List ℕ} (ring_is : ring' ≡ cond above (written shape.width ring slot shape.largest) ring) {numbers' : List ℕ} {count' nth' : ℕ}
-        where
-          -- it is altered
-          pub going_alters : true ≡ above → numbers' ≡ set numbers count slot → count' ≡ count + 1 → nth' ≡ j
-              → Going book ring₀ numbers₀ (walk_of ring' numbers' count' nth') (j - 1)
-          going_alters large numbers-is count_is nth-is =
-              let written_is : ring' ≡ written (width_of book) ring (newest_slot book j) (largest_of book) =
-              ring_is ∙ ap (λ (t : Bool). cond t (written shape.width ring slot shape.largest) ring) (sym large)
-              ∙ (λ i. written (Shape-is i).width ring (place_is i) (Shape-is i).largest) in
-              let listed_is : numbers' ≡ set numbers count (newest_slot book j) = numbers-is ∙ ap (set numbers count) place_is in
-              going_by some (walk_of ring' numbers' count' nth')
-              (step_alters book j here (sym above_is ∙ sym large)
-              ∙ sym (λ i. walk_of (written_is i) (listed_is i) (count_is i) (nth-is i)))
-              (omega (arith, count_is))
-
-          -- it is left
-          pub going_leaves : false ≡ above → numbers' ≡ numbers → count' ≡ count → nth' ≡ nth₁
-              → Going book ring₀ numbers₀ (walk_of ring' numbers' count' nth') (j - 1)
-          going_leaves small numbers-is count_is nth-is =
-              let ring_stays : ring' ≡ ring =
-              ring_is ∙ ap (λ (t : Bool). cond t (written shape.width ring slot shape.largest) ring) (sym small) in
-              going_by some (walk_of ring' numbers' count' nth')
-              (step_leaves book j here (sym above_is ∙ sym small)
-              ∙ sym (λ i. walk_of (ring_stays i) (numbers-is i) (count_is i) (nth-is i)))
-              (omega (arith, count_is))
+      -- it is left
+      pub going_leaves : false ≡ too_large book ring slot → numbers' ≡ numbers → count' ≡ count → nth' ≡ nth₁
+          → Going book ring₀ numbers₀ (walk_of ring' numbers' count' nth') (j - 1)
+      going_leaves small numbers-is count_is nth-is =
+          let ring_stays : ring' ≡ ring =
+          ring_is ∙ ap (λ (t : Bool). cond t (written (width_of book) ring slot (largest_of book)) ring) (sym small) in
+          going_by some (walk_of ring' numbers' count' nth')
+          (step_leaves book j here (above_is ∙ sym small) ∙ sym (λ i. walk_of (ring_stays i) (numbers-is i) (count_is i) (nth-is i)))
+          (omega (arith, count_is))
 
   -- no slot is left
   pub going_end : j ≡ 0

@@ -28,8 +28,8 @@ pub struct Mended {
 pub fn salvage(book: Book, ring: &mut [u8], numbers: &mut [u32]) -> Result<Mended, Refusal>
     ensures { (as_salvaged book result ≡ result_of (salvage_call book ring.old numbers.old)) × (ring.new ≡ (left_of (salvage_call book ring.old numbers.old)).ring) × (numbers.new ≡ (left_of (salvage_call book ring.old numbers.old)).numbers) }
 {
-    let shape = judge::ready(book, ring.len(), numbers.len())?;
-    Ok(walk::mend(book, shape, ring, numbers))
+    let known = judge::ready(book, ring.len(), numbers.len())?;
+    Ok(walk::mend(known, ring, numbers))
 }
 
 // Salvages a ring, and rebuilds its row of running sums.
@@ -41,9 +41,9 @@ pub fn salvage_row(
 ) -> Result<Mended, Refusal>
     ensures { (as_salvaged book result ≡ result_of (salvage_row_call book ring.old numbers.old row.old)) × (ring.new ≡ (left_of (salvage_row_call book ring.old numbers.old row.old)).ring) × (numbers.new ≡ (left_of (salvage_row_call book ring.old numbers.old row.old)).numbers) × (row.new ≡ (left_of (salvage_row_call book ring.old numbers.old row.old)).row) }
 {
-    let shape = judge::ready(book, ring.len(), numbers.len())?;
-    sums::judge::room_for_row(shape, row.len())?;
-    let mended = walk::mend(book, shape, ring, numbers);
-    groups::rebuild(shape, ring, row);
+    let known = judge::ready(book, ring.len(), numbers.len())?;
+    sums::judge::room_for_row(known.shape, row.len())?;
+    let mended = walk::mend(known, ring, numbers);
+    groups::rebuild(known, ring, row);
     Ok(mended)
 }

@@ -30,6 +30,10 @@ module _ (test : ℕ → Bool) where
   pub counted_next : {count step : ℕ} (here : ℕ) → count ≡ counted test here → step ≡ one_if (test here) → count + step ≡ counted test (here + 1)
   counted_next here so_far is-step = rw (add-one here, counted_more here) (omega (arith, so_far, is-step))
 
+  -- a count with that of the positions behind
+  pub counted_behind : (more from to : ℕ) {count : ℕ} → count ≡ counted test from → counted test from + more ≡ counted test to → count + more ≡ counted test to
+  counted_behind more from to so_far is-more = (λ i. so_far i + more) ∙ is-more
+
   -- no more positions than there are
   pub counted_le : (count : ℕ) → counted test count ≤ count
   unfolding counted

@@ -12,7 +12,7 @@ use Rattle.score.specs.Changed.{apart, moved, moved_at, one_if, counted}
 use Rattle.score.specs.Near.{threshold_of, near, near_one, near_at, far_at, moved_in}
 use Rattle.score.specs.Masked.{unmasked}
 use Rattle.score.specs.Rows.{black_bit, count_from}
-use Rattle.score.proofs.Counts.{counted_on, counted_next, counted_same, counted_others}
+use Rattle.score.proofs.Counts.{counted_on, counted_same, counted_others}
 
 -- a difference times 255 is above a number exactly where it is above a 255th of it
 moved_not_near : (allowance maxval x y : ℕ) → moved allowance maxval x y ≡ not (near (threshold_of allowance maxval) x y)
@@ -69,12 +69,12 @@ module _ (per threshold : ℕ) (first second : List ℕ) (byte at : ℕ) where
   abbrev pub test : ℕ → Bool
   test = unmasked (black_bit byte) (λ column. far_at per threshold first second (at + column))
 
-  pub under_next : (bit : ℕ) {count x y white step : ℕ} → count ≡ counted test bit → x ≡ pixel_at per first (at + bit) → y ≡ pixel_at per second (at + bit)
-      → white ≡ one_if (not (black_bit byte bit)) → step ≡ white - near_one threshold x y → count + step ≡ counted test (bit + 1)
-  under_next bit {count} {x} {y} so_far is_x is_y is_white is-step =
-      counted_next test bit so_far
-      (is-step ∙ (λ i. is_white i - (near_one_lem threshold x y ∙ λ j. one_if (near threshold (is_x j) (is_y j))) i)
-      ∙ white_and_far (black_bit byte bit) (near_at per threshold first second (at + bit)))
+  pub under_bit : (bit : ℕ) (found : Bool) {x y white one : ℕ} → x ≡ pixel_at per first (at + bit) → y ≡ pixel_at per second (at + bit)
+      → white ≡ one_if (not (black_bit byte bit)) → one_if found ≡ near_one threshold x y → one ≡ white - one_if found → one ≡ one_if (test bit)
+  under_bit bit found {x} {y} is_x is_y is_white is-found is-one =
+      is-one
+      ∙ (λ i. is_white i - (is-found ∙ near_one_lem threshold x y ∙ λ j. one_if (near threshold (is_x j) (is_y j))) i)
+      ∙ white_and_far (black_bit byte bit) (near_at per threshold first second (at + bit))
 
 -- and pixels that are not near moved
 pub far_moved : {per : ℕ} (black : ℕ → Bool) (allowance maxval : ℕ) (first second : List ℕ) (at columns : ℕ) → pixel_bytes maxval ≡ per

@@ -10,7 +10,7 @@ use lib.ListN.{length, take, drop, length-drop}
 use lib.Seq.{length-take-le}
 use Rattle.image.specs.Kinds.{row_bytes}
 use Rattle.image.specs.Pixels.{pixel_bytes, pixel_at}
-use Rattle.image.proofs.Promises.{pixel_within, pixel_bytes_one, pixel_bytes_two, pixel_bytes_range}
+use Rattle.image.proofs.Promises.{pixel_within, pixel_bytes_range}
 use Rattle.score.specs.Changed.{moved, counted}
 use Rattle.score.specs.Near.{moved_in, changed_in}
 use Rattle.score.specs.Black.{row_of, black_in, black_at}
@@ -110,14 +110,6 @@ have_few {maxval} {positions} have =
 pub bytes_had : {maxval per positions : ℕ} {first second : List ℕ} → Have maxval first second positions → pixel_bytes maxval ≡ per
     → (positions * per ≤ length first) × (positions * per ≤ length second)
 bytes_had have e = rw (← e) (have.first_has, have.second_has)
-
--- where a pixel stands, of one byte and of two
-module _ {maxval : ℕ} (position : ℕ) {first second : List ℕ} (have : Have maxval first second (position + 1)) where
-  pub byte_there : maxval ≤ 255 → (position < length first) × (position < length second)
-  byte_there low = let h = bytes_had have (pixel_bytes_one maxval low) in (omega (arith, h.0), omega (arith, h.1))
-
-  pub pair_there : 255 < maxval → (position * 2 + 2 ≤ length first) × (position * 2 + 2 ≤ length second)
-  pair_there high = let h = bytes_had have (pixel_bytes_two maxval high) in (omega (arith, h.0), omega (arith, h.1))
 
 -- the part of a raster from one position up to another
 abbrev pub part_of : (per from to : ℕ) → List ℕ → List ℕ

@@ -1,19 +1,19 @@
 // Counting the positions that changed: all of them but those that stayed within one threshold. (Of bytes a processor compares "no more
-// than" in one instruction, and "more than" in two.)
+// than" in one instruction, and "more than" in two.) A cast to fewer bits is proved to fit; `try_from` would ask for an answer where it does not.
 ghost use Rattle.std.specs.Prelude.{◌≡◌, ◌≤◌, min, length};
 ghost use Rattle.score.specs.Near.{threshold_of, changed_in};
 
-use crate::{bytes, pairs};
+use crate::compare;
 
 // The largest maxval of images with one byte a pixel.
-const BYTE_MOST: usize = 255;
+pub(crate) const BYTE_MOST: usize = 255;
 
 // The largest difference that does not count.
 pub(crate) fn threshold(allowance: u8, maxval: usize) -> usize
     requires { maxval ≤ 65535 }
     ensures { result ≡ threshold_of allowance maxval }
 {
-    allowance as usize * maxval / 255
+    usize::from(allowance) * maxval / 255
 }
 
 // The same of one byte. (At maxval 255 it is the allowance itself. Said so, the loop that compares with it is shorter.)
@@ -33,10 +33,10 @@ pub(crate) fn changed(first: &[u8], second: &[u8], allowance: u8, maxval: usize)
     ensures { result ≡ changed_in allowance maxval first.now second.now }
 {
     if maxval <= BYTE_MOST {
-        let near = bytes::near_of(first, second, byte_threshold(allowance, maxval));
+        let near = compare::near_bytes(first, second, byte_threshold(allowance, maxval));
         return first.len() as u16 - near;
     }
-    let near = pairs::near_of(first, second, threshold(allowance, maxval) as u16);
+    let near = compare::near_pairs(first, second, threshold(allowance, maxval) as u16);
     (first.len() / 2) as u16 - near
 }
 
@@ -44,6 +44,5 @@ pub(crate) fn changed(first: &[u8], second: &[u8], allowance: u8, maxval: usize)
 pub(crate) fn at_most(bound: u64, number: u16) -> u64
     ensures { result ≡ min bound number }
 {
-    let wide = number as u64;
-    if bound < wide { bound } else { wide }
+    bound.min(u64::from(number))
 }

@@ -11,10 +11,10 @@ ghost use Rattle.score.specs.Masked.{masked_call};
 
 use refusals::Refusal;
 
-mod bytes;
+mod compare;
 mod count;
 mod judge;
-mod pairs;
+mod pixels;
 mod under_mask;
 mod whites;
 

@@ -4,16 +4,14 @@
 ghost use Rattle.std.specs.Prelude.{◌≡◌, ◌+◌, ◌*◌, ◌-◌, ◌≤◌, ◌<◌, min, length, get_or};
 ghost use Rattle.image.specs.Kinds.{row_bytes};
 ghost use Rattle.image.specs.Pixels.{pixel_bytes};
-ghost use Rattle.score.specs.Changed.{moved, one_if, counted};
+ghost use Rattle.score.specs.Changed.{counted};
 ghost use Rattle.score.specs.Near.{moved_in};
 ghost use Rattle.score.specs.Black.{black_in};
-ghost use Rattle.score.specs.Masked.{unmasked};
 ghost use Rattle.score.specs.Rows.{black_bit, count_from, changed_under, white_table, WhiteBytes, Have};
 
-use crate::{bytes, count, pairs, whites};
-
-// The largest maxval of images with one byte a pixel.
-const BYTE_MOST: usize = 255;
+use crate::compare::far_under_byte;
+use crate::count::BYTE_MOST;
+use crate::{count, whites};
 
 // A byte of the mask in which every position is white, and one in which every position is black.
 const WHITE: u8 = 0;
@@ -21,6 +19,7 @@ const WHITE: u8 = 0;
 const BLACK: u8 = 255;
 
 // The bytes of a pixel.
+#[tactic(auto, using(image::proofs::Promises::pixel_bytes_one, image::proofs::Promises::pixel_bytes_two))]
 fn pixel_bytes(maxval: usize) -> usize
     ensures { result ≡ pixel_bytes maxval }
 {
@@ -45,83 +44,7 @@ fn changed_between(
     count::changed(&first[start..end], &second[start..end], allowance, maxval)
 }
 
-// 1 for pixels that moved, else 0.
-fn moved(allowance: u8, maxval: usize, x: u16, y: u16) -> u16
-    requires { maxval ≤ 65535 }
-    ensures { result ≡ one_if (moved allowance maxval x y) }
-{
-    if allowance as usize * maxval < pairs::apart(x, y) as usize * 255 {
-        1
-    } else {
-        0
-    }
-}
-
-// The same of the pixels at a position.
-fn moved_at(first: &[u8], second: &[u8], at: usize, allowance: u8, maxval: usize) -> u16
-    requires { Have maxval first.now second.now (at + 1) }
-    ensures { result ≡ one_if (moved_in allowance maxval first.now second.now at) }
-{
-    if maxval <= BYTE_MOST {
-        return moved(allowance, maxval, first[at] as u16, second[at] as u16);
-    }
-    moved(
-        allowance,
-        maxval,
-        pairs::pixel(first, at),
-        pairs::pixel(second, at),
-    )
-}
-
-// Whether a bit of a byte is black, the top bit first.
-fn is_black(byte: u8, bit: usize) -> bool
-    requires { bit < 8 }
-    ensures { result ≡ black_bit byte bit }
-{
-    (byte >> (7 - bit)) % 2 == 1
-}
-
-// 1 where the position of a bit counts, else 0.
-fn counts(
-    first: &[u8],
-    second: &[u8],
-    byte: u8,
-    bit: usize,
-    at: usize,
-    allowance: u8,
-    maxval: usize,
-) -> u16
-    requires { (bit < 8) × Have maxval first.now second.now (at + bit + 1) }
-    ensures { result ≡ one_if (unmasked (black_bit byte) (λ column. moved_in allowance maxval first.now second.now (at + column)) bit) }
-{
-    if is_black(byte, bit) {
-        return 0;
-    }
-    moved_at(first, second, at + bit, allowance, maxval)
-}
-
-// The positions of one byte of the mask that count, where all of its eight bits have columns.
-fn in_eight(
-    first: &[u8],
-    second: &[u8],
-    whites: &[u8],
-    byte: u8,
-    at: usize,
-    allowance: u8,
-    maxval: usize,
-) -> u16
-    requires { (whites.now ≡ white_table) × Have maxval first.now second.now (at + 8) }
-    ensures { result ≡ count_from (black_bit byte) (moved_in allowance maxval first.now second.now) at 8 }
-{
-    if maxval <= BYTE_MOST {
-        let threshold = count::byte_threshold(allowance, maxval);
-        return bytes::under_byte(first, second, whites, byte, at, threshold);
-    }
-    let threshold = count::threshold(allowance, maxval) as u16;
-    pairs::under_byte(first, second, whites, byte, at, threshold)
-}
-
-// The same where it may be that only its first bits have columns.
+// The positions of one byte of the mask that count; it may be that only its first bits have columns.
 fn in_byte(
     first: &[u8],
     second: &[u8],
@@ -135,16 +58,12 @@ fn in_byte(
     requires { (whites.now ≡ white_table) × (columns ≤ 8) × Have maxval first.now second.now (at + columns) }
     ensures { result ≡ count_from (black_bit byte) (moved_in allowance maxval first.now second.now) at columns }
 {
-    if columns == 8 {
-        return in_eight(first, second, whites, byte, at, allowance, maxval);
+    if maxval <= BYTE_MOST {
+        let threshold = count::byte_threshold(allowance, maxval);
+        return far_under_byte(first, second, whites, byte, columns, at, threshold);
     }
-    let mut count: u16 = 0;
-    let mut i = 0;
-    while i < columns {
-        count += counts(first, second, byte, i, at, allowance, maxval);
-        i += 1;
-    }
-    count
+    let threshold = count::threshold(allowance, maxval) as u16;
+    far_under_byte(first, second, whites, byte, columns, at, threshold)
 }
 
 // Where the whole white bytes from here on end.
@@ -152,14 +71,12 @@ fn white_end(row: &[u8], from: usize) -> usize
     requires { from ≤ length row.now }
     ensures { (from ≤ result) × (result ≤ length row.now) × WhiteBytes row.now from result }
 {
-    let mut at = from;
-    while at < row.len() {
+    for at in from..row.len() {
         if row[at] != WHITE {
             return at;
         }
-        at += 1;
     }
-    at
+    row.len()
 }
 
 // The columns before a byte of a row.
@@ -167,7 +84,7 @@ fn columns_before(byte: usize, width: usize) -> usize
     requires { byte ≤ 1024 }
     ensures { result ≡ min (8 * byte) width }
 {
-    if 8 * byte < width { 8 * byte } else { width }
+    width.min(8 * byte)
 }
 
 // The positions of one row that count.
@@ -186,6 +103,7 @@ fn in_row(
 {
     let mut count: u16 = 0;
     let mut byte = 0;
+    // By index: a turn takes one byte or a whole run of white ones.
     while byte < row.len() {
         let from = 8 * byte;
         let value = row[byte];
@@ -221,10 +139,10 @@ pub(crate) fn changed(
 {
     let table = whites::TABLE;
     let whites: &[u8] = &table;
+    // Word for word what `row_bytes` is.
     let stride = (width + 7) / 8;
     let mut count: u16 = 0;
-    let mut row = 0;
-    while row < height {
+    for row in 0..height {
         let start = row * stride;
         count += in_row(
             first,
@@ -236,7 +154,6 @@ pub(crate) fn changed(
             allowance,
             maxval,
         );
-        row += 1;
     }
     count
 }

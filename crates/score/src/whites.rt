@@ -19,7 +19,9 @@ pub(crate) fn white(whites: &[u8], byte: u8, bit: usize) -> u8
     ensures { result ≡ one_if (not (black_bit byte bit)) }
 {
     if bit < 4 {
-        return whites[(byte / 16) as usize * 4 + bit];
+        let half = usize::from(byte / 16);
+        return whites[half * 4 + bit];
     }
-    whites[(byte % 16) as usize * 4 + bit - 4]
+    let half = usize::from(byte % 16);
+    whites[half * 4 + bit - 4]
 }

@@ -14,7 +14,6 @@ use Rattle.book.specs.Record.{block_of, slots_of, shape_for, held_in}
 use Rattle.book.specs.Sound.{Sound, Usable}
 use Rattle.book.specs.Figure.{reckoned, slots_for, figure, newest_sum_of}
 use Rattle.book.proofs.Promises.{by_open, by_slots, for_high, for_covers, for_tight, span_top}
-use Rattle.sums.specs.Row.{entries_for, entries_of}
 use Rattle.sums.specs.Rule.{fields_read, sums_read, sum_by_row, fields_for, sums_for, figure_by_row}
 use Rattle.sums.proofs.ShapeInUse.{use_block, use_slots}
 
@@ -34,15 +33,14 @@ module _ (book : Book) (ring row : List ℕ) (window : ℕ) (inside : window ≤
   sums_inside = rw (le-leb window book.phase inside)
 
 -- a longer one, of a book in use: j slots are needed
-pub record Longer (book : Book) (shape : Shape) (ring row : List ℕ) (window j : ℕ) : Type 0 where
+pub record Longer (book : Book) (shape : Shape) (ring : List ℕ) (window j : ℕ) : Type 0 where
   pub usable : Usable book (length ring)
   pub shape_is : shape ≡ shape_for book
-  pub room : entries_of book ≤ length row
   pub longer : book.phase < window
   pub kept : window ≤ book.kept
   pub j_is : j ≡ slots_for book window
 
-module _ {book : Book} {shape : Shape} {ring row : List ℕ} {window j : ℕ} (k : Longer book shape ring row window j) where
+module _ {book : Book} {shape : Shape} {ring : List ℕ} {window j : ℕ} (k : Longer book shape ring window j) where
   sound : Sound book
   sound = k.usable.sound
 
@@ -51,9 +49,6 @@ module _ {book : Book} {shape : Shape} {ring row : List ℕ} {window j : ℕ} (k
   slots_needed =
       let most = for_high book sound window k.longer k.kept in
       omega (arith, k.j_is, most, (use_slots k.shape_is sound).0)
-
-  pub row_room : entries_for shape.slots ≤ length row
-  row_room = omega (arith, k.room, (use_slots k.shape_is sound).0)
 
   -- they cover the window, by less than a block too much
   pub slots_cover : (window - book.phase ≤ j * shape.block) × (j * shape.block ≤ 8192)
@@ -69,10 +64,10 @@ module _ {book : Book} {shape : Shape} {ring row : List ℕ} {window j : ℕ} (k
         span_top book sound (slots_for book window * block_of book - (window - book.phase)) short,
       )
 
-  pub figure_longer : {sum g : ℕ} → sum ≡ sum_by_row shape.slots book.head j (field shape.width ring) row
+  pub figure_longer : (row : List ℕ) {sum g : ℕ} → sum ≡ sum_by_row shape.slots book.head j (field shape.width ring) row
       → g ≡ field shape.width ring (newest shape.slots book.head j)
       → reckoned book sum (j * shape.block - (window - book.phase)) g ≡ figure_by_row book ring row window
-  figure_longer sum_is_lem g_is =
+  figure_longer row sum_is_lem g_is =
       rw (sum_is_lem, g_is, k.j_is, k.shape_is)
       (sym (by_slots book (λ j. sum_by_row (slots_of book) book.head j (held_in book ring) row) (held_in book ring) window k.longer))
 

@@ -12,14 +12,16 @@ use Rattle.refusals.specs.Call.{result_of, left_of}
 use Rattle.ring.specs.Slot.{field}
 use Rattle.book.specs.declared.Book.{Book}
 use Rattle.book.specs.declared.shape.Shape.{Shape}
+use Rattle.book.specs.declared.known.Known.{Known}
 use Rattle.book.specs.Derived.{slot_count}
 use Rattle.book.specs.Shape.{shape_of}
 use Rattle.book.specs.Record.{block_of, slots_of, shape_for, held_in}
-use Rattle.book.specs.Sound.{Sound}
+use Rattle.book.specs.Sound.{Sound, Usable}
+use Rattle.book.specs.Resting.{awake}
 use Rattle.book.specs.RunOfCounts.{any_above, added_all, added_all_ring}
 use Rattle.book.specs.Calls.{run_call}
-use Rattle.book.proofs.Promises.{none_above, all_below, above_take, above_drop, le_or_lt, run_taken, run_gives, all_none, added_all_apart, added_ring_apart}
-use Rattle.sums.specs.Row.{group_end, entry_at, sum_to, added_all_row}
+use Rattle.book.proofs.Promises.{none_above, all_below, above_take, above_drop, le_or_lt, run_taken, run_gives, all_none, added_all_apart, added_ring_apart, ready}
+use Rattle.sums.specs.Row.{entries_of, group_end, entry_at, sum_to, added_all_row}
 use Rattle.sums.specs.Rule.{stored_at}
 use Rattle.sums.specs.RunParts.{Taking, items_left, Stands}
 use Rattle.sums.proofs.SumsOfFields.{from_none, to_same}
@@ -75,15 +77,44 @@ module _ {book : Book} {shape : Shape} (sound : Sound book) (shape_is : shape �
   unfolding items_left
   span_left = omega (arith, span_is)
 
+-- A BOOK WITH ITS NUMBERS THAT TAKES COUNTS, part by part
+pub record Takes (book : Book) (shape : Shape) (ring row : ℕ) (counts : List ℕ) : Type 0 where
+  pub usable : Usable book ring
+  pub shape_is : shape ≡ shape_for book
+  pub room : entries_of book ≤ row
+  pub up : book.resting ≡ awake
+  pub small : any_above book.bound counts ≡ false
+
+-- as a judged book does, and the other way
+module _ (known : Known) {ring row : ℕ} {counts : List ℕ} where
+  pub takes : Taking known ring row counts → Takes known.book known.shape ring row counts
+  takes taking =
+      record {
+        usable = (ready known taking.ring_room).usable;
+        shape_is = known.derived;
+        room = rw known.derived at taking.row_room;
+        up = taking.up;
+        small = taking.small;
+      }
+
+  pub taking_by : Takes known.book known.shape ring row counts → Taking known ring row counts
+  taking_by taking =
+      record {
+        ring_room = rw known.derived taking.usable.room;
+        row_room = rw known.derived taking.room;
+        up = taking.up;
+        small = taking.small;
+      }
+
 -- WHERE THE COUNTS ARE TAKEN, the book's own run adds them
-pub run_adds : {book : Book} {shape : Shape} {row : ℕ} (ring : List ℕ) {counts : List ℕ} → Taking book shape (length ring) row counts
+pub run_adds : {book : Book} {shape : Shape} {row : ℕ} (ring : List ℕ) {counts : List ℕ} → Takes book shape (length ring) row counts
     → (result_of (run_call book ring counts) ≡ record { refusal = 0; place = 0; book = added_all book counts })
     × (left_of (run_call book ring counts) ≡ added_all_ring book ring counts)
 run_adds {book} ring {counts} taking =
     run_gives book ring counts (run_taken book ring counts taking.usable taking.small taking.up)
 
 -- A PART: the row takes the group's sum, or is left
-module _ {book : Book} {shape : Shape} (ring row : List ℕ) {counts : List ℕ} (taking : Taking book shape (length ring) (length row) counts)
+module _ {book : Book} {shape : Shape} (ring row : List ℕ) {counts : List ℕ} (taking : Takes book shape (length ring) (length row) counts)
     (few : length counts ≤ items_left book) where
   a_part : Part book ring row counts
   a_part = of_a_part book ring row counts taking.usable taking.small few
@@ -128,14 +159,14 @@ module _ {book : Book} {shape : Shape} (ring row : List ℕ) {counts : List ℕ}
 -- PART BY PART: the counts that are left, added to record, ring and row, come to what all counts do; and while some are left, the row has the sum
 -- of the present fields up to `from`, not behind head
 pub record Going (book : Book) (shape : Shape) (ring₀ row₀ counts ring row left : List ℕ) (after : Book) (from : ℕ) : Type 0 where
-  pub taking : Taking after shape (length ring) (length row) left
+  pub taking : Takes after shape (length ring) (length row) left
   pub book_left_lem : added_all after left ≡ added_all book counts
   pub ring_left_lem : added_all_ring after ring left ≡ added_all_ring book ring₀ counts
   pub row_left_lem : added_all_row after ring row left ≡ added_all_row book ring₀ row₀ counts
   pub from_low : from ≤ after.head
   pub stands : 0 < length left → Stands shape ring row from
 
-pub going_start : {book : Book} {shape : Shape} (ring row : List ℕ) {counts : List ℕ} → Taking book shape (length ring) (length row) counts
+pub going_start : {book : Book} {shape : Shape} (ring row : List ℕ) {counts : List ℕ} → Takes book shape (length ring) (length row) counts
     → Going book shape ring row counts ring row counts book 0
 going_start ring row taking =
     record {
@@ -171,7 +202,7 @@ module _ {book : Book} {shape : Shape} {ring₀ row₀ counts ring row left : Li
     pub these_few : length these ≤ items_left after
     these_few = omega (arith, these_many, many_is)
 
-    pub these_taken : Taking after shape (length ring) (length row) these
+    pub these_taken : Takes after shape (length ring) (length row) these
     these_taken =
         record {
           usable = g.taking.usable;

@@ -8,23 +8,22 @@ use Rattle.book.specs.declared.RunRefusal.{RunRefusal}
 use Rattle.book.specs.declared.RunRefusal.TheVariants.{Refused, CountTooLarge}
 use Rattle.book.specs.declared.shape.Shape.{Shape}
 use Rattle.book.specs.Resting.{awake}
-use Rattle.book.specs.Record.{block_of, slots_of, shape_for}
-use Rattle.book.specs.Sound.{Usable}
+use Rattle.book.specs.declared.known.Known.{Known}
+use Rattle.book.specs.Record.{block_of, slots_of}
 use Rattle.book.specs.RunOfCounts.{any_above, FirstAbove}
-use Rattle.sums.specs.Row.{entries_of, group_end, sum_to}
+use Rattle.sums.specs.Row.{entries_for, group_end, sum_to}
 use Rattle.sums.specs.Rule.{stored_at}
 
 -- how many items come until the last slot of head's group is written
 unfoldable pub items_left : Book → ℕ
 items_left book = (group_end (slots_of book) book.head - book.head) * block_of book - book.phase
 
--- a book with its numbers that takes these counts, where so many bytes of the ring and so many numbers of the row are lent
-pub record Taking (book : Book) (shape : Shape) (ring row : ℕ) (counts : List ℕ) : Type 0 where
-  pub usable : Usable book ring
-  pub shape_is : shape ≡ shape_for book
-  pub room : entries_of book ≤ row
-  pub up : book.resting ≡ awake
-  pub small : any_above book.bound counts ≡ false
+-- a judged book that takes these counts, where so many bytes of the ring and so many numbers of the row are lent
+pub record Taking (known : Known) (ring row : ℕ) (counts : List ℕ) : Type 0 where
+  pub ring_room : known.shape.bytes ≤ ring
+  pub row_room : entries_for known.shape.slots ≤ row
+  pub up : known.book.resting ≡ awake
+  pub small : any_above known.book.bound counts ≡ false
 
 -- the row has the sum of the present fields up to this end
 abbrev pub Stands : Shape → List ℕ → List ℕ → ℕ → Type 0

@@ -1,18 +1,17 @@
-// What is refused before anything is changed: the book's refusals 8 and 4, the row's own, 18, behind them, and what a run of counts asks next.
+// What is refused before anything is changed: the row's own refusal, 18, behind the book's 8 and 4, and what a run of counts asks next.
 ghost use Rattle.std.specs.Prelude.{◌≡◌, ℕ, ◌≤◌, ◌<◌, false, [], ◌∷◌, ◌++◌, length, slice_index, EachIndex, MatchOption, MatchResult};
 ghost use Rattle.refusals.specs.First.{first_of};
 ghost use Rattle.refusals.specs.Refused.{number_of, number_in};
 ghost use Rattle.book.specs.Record.{shape_for};
 ghost use Rattle.book.specs.Resting.{awake};
 ghost use Rattle.book.specs.RunOfCounts.{any_above};
-ghost use Rattle.book.specs.Sound.{Ranges};
-ghost use Rattle.book.specs.Ready.{Ready};
-ghost use Rattle.book.specs.Calls.{room_fault, record_faults, book_faults};
+ghost use Rattle.book.specs.Calls.{room_fault, book_faults};
 ghost use Rattle.sums.specs.Row.{entries_for, entries_of};
 ghost use Rattle.sums.specs.RunParts.{RefusedFor};
 ghost use Rattle.sums.specs.Calls.{row_fault};
 
 use crate::row;
+use book::judge::usable;
 use book::shape::Shape;
 use book::{Book, RunRefusal};
 use refusals::Refusal;
@@ -37,28 +36,13 @@ pub fn room_for_row(shape: Shape, row: usize) -> Result<(), Refusal>
     Ok(())
 }
 
-// The numbers of a record; where its L, n and D have none, it is no book.
-fn numbers(book: Book) -> Result<Shape, Refusal>
-    ensures { MatchResult result (λ shape. Ranges book.bound book.length book.tolerance × (shape ≡ shape_for book)) (λ refusal. number_of refusal ≡ first_of (record_faults book)) }
-{
-    book::shape::derive(book.bound, book.length, book.tolerance).or(Err(Refusal::NoBook))
-}
-
-// 8, then 4. 8 is what waking is refused with: the record that it gives is not used.
-pub fn usable(book: Book, ring: usize) -> Result<Shape, Refusal>
-    ensures { MatchResult result (λ shape. Ready book shape ring) (λ refusal. number_of refusal ≡ first_of (book_faults book ring)) }
-{
-    let shape = numbers(book)?;
-    book::wake(book)?;
-    room_for_ring(shape, ring)?;
-    Ok(shape)
-}
-
 // 18, for a call of the book that asks for 8 and 4 by itself: they come before it, but are asked for here only where the row is too short.
 pub(crate) fn room_beside(book: Book, ring: usize, row: usize) -> Result<Shape, Refusal>
     ensures { MatchResult result (λ shape. (shape ≡ shape_for book) × (entries_of book ≤ row)) (λ refusal. number_of refusal ≡ first_of (book_faults book ring ++ row_fault (entries_of book) row ∷ [])) }
 {
-    let shape = numbers(book)?;
+    let Ok(shape) = book::shape::derive(book.bound, book.length, book.tolerance) else {
+        return Err(Refusal::NoBook);
+    };
     if let Err(short) = room_for_row(shape, row) {
         usable(book, ring)?;
         return Err(short);

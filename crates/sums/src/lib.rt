@@ -11,6 +11,8 @@ ghost use Rattle.book.specs.Told.{as_updated, as_ran};
 ghost use Rattle.sums.specs.Told.{as_summed};
 ghost use Rattle.sums.specs.Calls.{open_row_call, add_row_call, run_row_call, total_row_call};
 
+use book::judge::usable;
+use book::known::Known;
 use book::{Book, RunRefusal};
 use refusals::Refusal;
 
@@ -54,7 +56,8 @@ pub fn add(book: Book, ring: &mut [u8], row: &mut [u32], item: u64) -> Result<Bo
     let shape = judge::room_beside(book, ring.len(), row.len())?;
     let added = book::add(book, ring, item)?;
     if added.phase == 0 {
-        row::store(shape, ring, row, book.head);
+        // The item was taken, so that the record is a book's, and these are its numbers.
+        row::store(Known { book, shape }, ring, row, book.head);
     }
     Ok(added)
 }
@@ -63,18 +66,18 @@ pub fn add(book: Book, ring: &mut [u8], row: &mut [u32], item: u64) -> Result<Bo
 pub fn run(book: Book, ring: &mut [u8], row: &mut [u32], counts: &[u64]) -> Result<Book, RunRefusal>
     ensures { (as_ran book result ≡ result_of (run_row_call book ring.old row.old counts.now)) × (ring.new ≡ (left_of (run_row_call book ring.old row.old counts.now)).ring) × (row.new ≡ (left_of (run_row_call book ring.old row.old counts.now)).row) }
 {
-    let shape = judge::usable(book, ring.len())?;
-    judge::room_for_row(shape, row.len())?;
+    let known = usable(book, ring.len())?;
+    judge::room_for_row(known.shape, row.len())?;
     judge::takes(book, counts)?;
-    Ok(running::add_all(book, shape, ring, row, counts))
+    Ok(running::add_all(known, ring, row, counts))
 }
 
 // The figure for the last `window` items, by the row; where no slot is needed, it is the book's own total.
 pub fn total(book: Book, ring: &[u8], row: &[u32], window: u64) -> Result<RowTotal, Refusal>
     ensures { as_summed result ≡ result_of (total_row_call book ring.now row.now window) }
 {
-    let shape = judge::usable(book, ring.len())?;
-    judge::room_for_row(shape, row.len())?;
+    let known = usable(book, ring.len())?;
+    judge::room_for_row(known.shape, row.len())?;
     if book.kept < window {
         return Err(Refusal::WindowTooLong);
     }
@@ -85,5 +88,5 @@ pub fn total(book: Book, ring: &[u8], row: &[u32], window: u64) -> Result<RowTot
             sums: 0,
         });
     }
-    Ok(totals::by_row(book, shape, ring, row, window))
+    Ok(totals::by_row(known, ring, row, window))
 }

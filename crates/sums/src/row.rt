@@ -1,12 +1,11 @@
 // The row of running sums: its entries, clearing it, and storing a sum where a group of slots ends. specs/Row.antt.
 ghost use Rattle.std.specs.Prelude.{◌≡◌, ◌++◌, ◌-◌, ◌*◌, ◌≤◌, ◌<◌, length, drop, replicate, set};
 ghost use Rattle.ring.specs.Slot.{field};
-ghost use Rattle.ring.specs.Lent.{Lent};
 ghost use Rattle.sums.specs.Row.{entries_for, group_end, entry_at, sum_from, sum_to, stored};
 ghost use Rattle.sums.specs.Rule.{stored_at};
 ghost use Rattle.sums.specs.RunParts.{Stands};
 
-use book::shape::Shape;
+use book::known::Known;
 
 pub(crate) const GROUP: u64 = 32;
 
@@ -55,15 +54,15 @@ pub(crate) fn clear(row: &mut [u32], n: usize)
 }
 
 // The sum of the fields from slot `from` up to, not including, slot `to`: the ring's own sum, told of `to` slots and asked for the last of them.
-pub fn fields(shape: Shape, ring: &[u8], from: u64, to: u64) -> u64
-    requires { Lent shape.width shape.slots (length ring.now) × (from ≤ to) × (to ≤ shape.slots) }
-    ensures { result ≡ sum_from (field shape.width ring.now) from (to - from) }
+pub fn fields(known: Known, ring: &[u8], from: u64, to: u64) -> u64
+    requires { (known.shape.bytes ≤ length ring.now) × (from ≤ to) × (to ≤ known.shape.slots) }
+    ensures { result ≡ sum_from (field known.shape.width ring.now) from (to - from) }
 {
     if to <= from {
         return 0;
     }
     ring::sum(
-        shape.width as usize,
+        known.shape.width as usize,
         to as usize,
         ring,
         0,
@@ -74,20 +73,20 @@ pub fn fields(shape: Shape, ring: &[u8], from: u64, to: u64) -> u64
 
 // Puts the sum of the ring's fields from slot 0 up to a group's end into the group's entry. Up to `from` the row has that sum already, so that
 // only the fields behind it are read.
-pub(crate) fn put(shape: Shape, ring: &[u8], row: &mut [u32], from: u64, end: u64)
-    requires { Lent shape.width shape.slots (length ring.now) × (1 ≤ end) × (end ≤ shape.slots) × (entries_for shape.slots ≤ length row.old) × (from ≤ end) × Stands shape ring.now row.old from }
-    ensures { row.new ≡ set row.old (entry_at end) (sum_to (field shape.width ring.now) end) }
+pub(crate) fn put(known: Known, ring: &[u8], row: &mut [u32], from: u64, end: u64)
+    requires { (known.shape.bytes ≤ length ring.now) × (1 ≤ end) × (end ≤ known.shape.slots) × (entries_for known.shape.slots ≤ length row.old) × (from ≤ end) × Stands known.shape ring.now row.old from }
+    ensures { row.new ≡ set row.old (entry_at end) (sum_to (field known.shape.width ring.now) end) }
 {
-    let sum = stored_at(row, from) + fields(shape, ring, from, end);
+    let sum = stored_at(row, from) + fields(known, ring, from, end);
     row[entry(end)] = sum as u32;
 }
 
 // Slot `slot` has been written: where a group ends with it, its sum is stored.
-pub(crate) fn store(shape: Shape, ring: &[u8], row: &mut [u32], slot: u64)
-    requires { Lent shape.width shape.slots (length ring.now) × (slot < shape.slots) × (entries_for shape.slots ≤ length row.old) }
-    ensures { row.new ≡ stored shape.slots (field shape.width ring.now) row.old slot }
+pub(crate) fn store(known: Known, ring: &[u8], row: &mut [u32], slot: u64)
+    requires { (known.shape.bytes ≤ length ring.now) × (slot < known.shape.slots) × (entries_for known.shape.slots ≤ length row.old) }
+    ensures { row.new ≡ stored known.shape.slots (field known.shape.width ring.now) row.old slot }
 {
-    if slot + 1 == group_end(shape.slots, slot) {
-        put(shape, ring, row, 0, slot + 1);
+    if slot + 1 == group_end(known.shape.slots, slot) {
+        put(known, ring, row, 0, slot + 1);
     }
 }

@@ -1,14 +1,14 @@
 // Which single fields and which stored sums are read for a run of slots, and reading them. specs/Rule.antt.
 ghost use Rattle.std.specs.Prelude.{◌≡◌, ◌-◌, ◌*◌, ◌≤◌, ◌<◌, length};
 ghost use Rattle.ring.specs.Slot.{field};
-ghost use Rattle.ring.specs.Lent.{Lent};
 ghost use Rattle.sums.specs.Row.{entries_for};
 ghost use Rattle.sums.specs.Rule.{end_after, end_before, parts_of, read_at, fields_of, sums_of, added_by, taken_by, fields_read, sums_read, sum_by_row};
 
 use crate::row;
-use book::shape::Shape;
+use book::known::Known;
 
-// Single fields are read up to `front`, and from `back` on; between them the sum stored at `plus` less the one at `minus`. At 0 none is read.
+// Single fields are read up to `front`, and from `back` on; between them the sum stored at `plus` less the one at `minus`. 0 is an end as well, as
+// `parts_of` has it: its sum is 0, and is not read.
 #[derive(Clone, Copy)]
 pub(crate) struct Parts {
     pub(crate) front: u64,
@@ -85,15 +85,15 @@ fn read_at(end: u64) -> u64
 }
 
 // Reads a run of slots from `from` up to, not including, `to`.
-pub(crate) fn read(shape: Shape, ring: &[u8], row: &[u32], from: u64, to: u64) -> Reading
-    requires { Lent shape.width shape.slots (length ring.now) × (entries_for shape.slots ≤ length row.now) × (from ≤ to) × (to ≤ shape.slots) }
-    ensures value { (result.added ≡ added_by (field shape.width ring.now) row.now from to (parts_of shape.slots from to)) × (result.taken ≡ taken_by row.now (parts_of shape.slots from to)) }
+pub(crate) fn read(known: Known, ring: &[u8], row: &[u32], from: u64, to: u64) -> Reading
+    requires { (known.shape.bytes ≤ length ring.now) × (entries_for known.shape.slots ≤ length row.now) × (from ≤ to) × (to ≤ known.shape.slots) }
+    ensures value { (result.added ≡ added_by (field known.shape.width ring.now) row.now from to (parts_of known.shape.slots from to)) × (result.taken ≡ taken_by row.now (parts_of known.shape.slots from to)) }
     ensures small { (result.added ≤ 4299161600) × (result.taken ≤ 4294967295) × (result.fields ≤ 63) × (result.sums ≤ 2) }
-    ensures counts { (result.fields ≡ fields_of from to (parts_of shape.slots from to)) × (result.sums ≡ sums_of (parts_of shape.slots from to)) }
+    ensures counts { (result.fields ≡ fields_of from to (parts_of known.shape.slots from to)) × (result.sums ≡ sums_of (parts_of known.shape.slots from to)) }
 {
-    let parts = split(shape.slots, from, to);
-    let front = row::fields(shape, ring, from, parts.front);
-    let back = row::fields(shape, ring, parts.back, to);
+    let parts = split(known.shape.slots, from, to);
+    let front = row::fields(known, ring, from, parts.front);
+    let back = row::fields(known, ring, parts.back, to);
     Reading {
         added: front + row::stored_at(row, parts.plus) + back,
         taken: row::stored_at(row, parts.minus),
@@ -103,19 +103,15 @@ pub(crate) fn read(shape: Shape, ring: &[u8], row: &[u32], from: u64, to: u64) -
 }
 
 // Reads the j newest slots before head: the run up to head, and the run up to the last slot.
-pub(crate) fn read_newest(shape: Shape, ring: &[u8], row: &[u32], head: u64, j: u64) -> Newest
-    requires { Lent shape.width shape.slots (length ring.now) × (entries_for shape.slots ≤ length row.now) × (head < shape.slots) × (j ≤ shape.slots) }
-    ensures value { (result.sum ≡ sum_by_row shape.slots head j (field shape.width ring.now) row.now) × (result.sum ≤ 17179869184) }
-    ensures counts { (result.fields ≡ fields_read shape.slots head j) × (result.sums ≡ sums_read shape.slots head j) }
+pub(crate) fn read_newest(known: Known, ring: &[u8], row: &[u32], j: u64) -> Newest
+    requires { (known.shape.bytes ≤ length ring.now) × (entries_for known.shape.slots ≤ length row.now) × (j ≤ known.shape.slots) }
+    ensures value { (result.sum ≡ sum_by_row known.shape.slots known.book.head j (field known.shape.width ring.now) row.now) × (result.sum ≤ 17179869184) }
+    ensures counts { (result.fields ≡ fields_read known.shape.slots known.book.head j) × (result.sums ≡ sums_read known.shape.slots known.book.head j) }
 {
-    let near = read(shape, ring, row, head.saturating_sub(j), head);
-    let far = read(
-        shape,
-        ring,
-        row,
-        shape.slots - j.saturating_sub(head),
-        shape.slots,
-    );
+    let head = known.book.head;
+    let slots = known.shape.slots;
+    let near = read(known, ring, row, head.saturating_sub(j), head);
+    let far = read(known, ring, row, slots - j.saturating_sub(head), slots);
     Newest {
         sum: (near.added + far.added).saturating_sub(near.taken + far.taken),
         fields: near.fields + far.fields,

@@ -28,19 +28,10 @@ pub(crate) fn number(answer: Result<(), Refusal>) -> u8
 pub(crate) fn no_book() -> Book
     ensures { result ≡ no_book_at_all }
 {
-    Book {
-        bound: 0,
-        length: 0,
-        tolerance: 0,
-        carry: 0,
-        phase: 0,
-        kept: 0,
-        head: 0,
-        resting: 0,
-    }
+    Book::default()
 }
 
-// The number of a verdict, and its figure.
+// The number of a verdict, and its figure. (The numbers that C has: include/uprzezar.h.)
 fn case_of(verdict: Verdict) -> (u8, u64)
     ensures { result ≡ case_of verdict }
 {
@@ -68,14 +59,13 @@ impl From<Result<Notice, Refusal>> for Ruled {
             }
             Err(refusal) => Ruled {
                 refusal: refusal.number(),
-                verdict: 0,
-                window: 0,
-                figure: 0,
+                ..Ruled::default()
             },
         }
     }
 }
 
+// The number of a picture. (The numbers that C has: include/uprzezar.h.)
 fn picture_number(picture: Picture) -> u8
     ensures { result ≡ picture_number (as_picture picture) }
 {
@@ -99,10 +89,7 @@ impl From<Result<Choice, Refusal>> for Shown {
             },
             Err(refusal) => Shown {
                 refusal: refusal.number(),
-                picture: 0,
-                offset: 0,
-                length: 0,
-                age: 0,
+                ..Shown::default()
             },
         }
     }

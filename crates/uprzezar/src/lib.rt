@@ -1,7 +1,8 @@
 // The public calls of ring, book, sums, trend, coarse, salvage, zones, image, score, lit and page for programs in C: the archive of
 // `rt staticlib uprzezar`, the header include/uprzezar.h. Not among them are book::two_totals, image::mask_header and image::pair_value, and
 // page::raster, since a part of lent bytes cannot cross: where that raster lies stands in what uprzezar_show gives. Each function hands its
-// arguments on and promises what the call behind it promises; a verdict and a choice of a picture cross as numbers, and a raster as its place.
+// arguments on and tells the result in numbers, as the clause of the call behind it has them: a refusal by its number, a verdict and a picture too,
+// and a raster by its place.
 
 #![tactic(auto)]
 
@@ -20,7 +21,7 @@ mod of_zones;
 // What the page is told, as numbers: the refusal, 0 for none; the verdict, 1 live, 2 frozen, 3 undecided, 4 resting; the window; the figure.
 // At a refusal all but the refusal are 0.
 #[repr(C)]
-#[derive(Clone, Copy)]
+#[derive(Clone, Copy, Default)]
 pub struct Ruled {
     pub refusal: u8,
     pub verdict: u8,
@@ -30,7 +31,7 @@ pub struct Ruled {
 
 // Where a raster lies in the lent bytes. At a refusal the part is empty.
 #[repr(C)]
-#[derive(Clone, Copy)]
+#[derive(Clone, Copy, Default)]
 pub struct Raster {
     pub refusal: u8,
     pub offset: usize,
@@ -40,7 +41,7 @@ pub struct Raster {
 // Which picture the page shows, as numbers: the refusal, 0 for none; the picture, 1 the newest, 2 the older one; where its raster lies in its own
 // bytes; its age in ticks. At a refusal all but the refusal are 0.
 #[repr(C)]
-#[derive(Clone, Copy)]
+#[derive(Clone, Copy, Default)]
 pub struct Shown {
     pub refusal: u8,
     pub picture: u8,

@@ -17,7 +17,8 @@ pub extern "C" fn uprzezar_header(bytes: &[u8]) -> Numbers
     Numbers::from(image::header(bytes))
 }
 
-// Where its raster lies, in bytes.
+// Where its raster lies, in bytes. (Not an impl of `From`: that a raster ends no earlier than it starts holds of what `header` gives, and not of
+// every `Layout`.)
 #[unsafe(no_mangle)]
 pub extern "C" fn uprzezar_raster(bytes: &[u8]) -> Raster
     ensures { result ≡ raster_place bytes.now }
@@ -30,8 +31,7 @@ pub extern "C" fn uprzezar_raster(bytes: &[u8]) -> Raster
         },
         Err(refusal) => Raster {
             refusal: refusal.number(),
-            offset: 0,
-            length: 0,
+            ..Raster::default()
         },
     }
 }

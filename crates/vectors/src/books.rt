@@ -107,6 +107,7 @@ pub(crate) fn verdict(
     }
 }
 
+// (Not an impl of `Display`: `Verdict` is of another crate.)
 fn word_and_figure(alloc: Global, verdict: Verdict) -> Answer {
     let (word, figure) = match verdict {
         Verdict::Live(figure) => ("live", figure),

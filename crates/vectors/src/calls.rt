@@ -15,7 +15,7 @@ pub(crate) fn answer(alloc: Global, line: &[u8]) -> Answer {
     of_ring_or_frames(alloc, &words)
 }
 
-// The calls on a ring, and those on lit frames.
+// The calls on a ring, and those on lit frames; other lines go on to `of_images`.
 fn of_ring_or_frames(alloc: Global, words: &[&str]) -> Answer {
     match words {
         ["ring_clear", width, slots, ring] => rings::clear(alloc, width, slots, ring),
@@ -47,7 +47,7 @@ fn of_ring_or_frames(alloc: Global, words: &[&str]) -> Answer {
     }
 }
 
-// The calls on images.
+// The calls on images; other lines go on to `of_book`.
 fn of_images(alloc: Global, words: &[&str]) -> Answer {
     match words {
         ["pgm", image] => images::pgm(alloc, image),
@@ -62,7 +62,7 @@ fn of_images(alloc: Global, words: &[&str]) -> Answer {
     }
 }
 
-// The calls on a book alone, and on a book for each zone.
+// The calls on a book alone, and on a book for each zone; other lines go on to `of_row_or_second_ring`.
 fn of_book(alloc: Global, words: &[&str]) -> Answer {
     match words {
         ["shape", bound, length, tolerance] => books::shape(alloc, bound, length, tolerance),

@@ -29,7 +29,7 @@ pub(crate) fn coarsen(
     coarser(alloc, Coarser::of(book, answer), &second)
 }
 
-// The same, and the row.
+// The same, and the row. (Not one with `coarsen`: the calls differ by the row, and what they share is in `coarser`.)
 pub(crate) fn coarsen_row(
     alloc: Global,
     record: &str,

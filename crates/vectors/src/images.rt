@@ -38,6 +38,7 @@ pub(crate) fn score(
     text::refusal_and_number(alloc, answer)
 }
 
+// The same under a mask. (Not one with `score`: the calls differ by the mask, and what they share is in `bytes` and `text`.)
 pub(crate) fn masked(
     alloc: Global,
     bound: &str,

@@ -10,7 +10,7 @@ const LONGEST_LINE: usize = 599_999;
 
 const UNREADABLE: &[u8] = b"?\n";
 
-// Answers each line, the last one though no line feed ends it. A read that fails ends the input. The lines are counted, since a proved loop ends
+// Answers each line, the last one too, where no line feed ends it. A read that fails ends the input. The lines are counted, since a proved loop ends
 // and nothing says that an input does; no run uses them up.
 pub(crate) fn answer_all<R: BufRead, W: Write>(
     alloc: Global,
@@ -33,6 +33,7 @@ pub(crate) fn answer_all<R: BufRead, W: Write>(
 // Reads the next line with its line feed, and says whether input may follow. Of a line that is too long, the start alone is kept.
 fn read_line<R: BufRead>(input: &mut R, line: &mut Vec<u8>) -> bool {
     line.clear();
+    // By `as`: no `From` goes from usize to u64.
     let mut start = input.by_ref().take(LONGEST_LINE as u64 + 1);
     let Ok(bytes) = start.read_until(b'\n', line) else {
         return false;

@@ -20,7 +20,7 @@ pub(crate) fn ask<F: FnOnce(&[u8], usize, usize) -> Result<usize, Refusal>>(
     text::refusal_and_number(alloc, answer)
 }
 
-// `row length step`, and what the call asks for.
+// `row length step`, and what the call asks for. (Not one with `ask`: each call would have to read the step from its word.)
 pub(crate) fn ask_by_step<F: FnOnce(&[u8], usize, usize, usize) -> Result<usize, Refusal>>(
     alloc: Global,
     row: &str,

@@ -44,6 +44,7 @@ pub(crate) fn show(alloc: Global, arguments: &[&str]) -> Answer {
 
 // The picture, where its raster starts and how long it is, and its age. It is told only if the raster's own bytes stand there.
 fn shown(alloc: Global, choice: Choice, raster: &[u8], newest: &[u8], older: &[u8]) -> Answer {
+    // (Not an impl of `Display`: `Picture` is of another crate.)
     let (word, lent) = match choice.picture {
         Picture::Newest => ("newest", newest),
         Picture::Older => ("older", older),

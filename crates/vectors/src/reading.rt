@@ -120,7 +120,7 @@ fn byte(digits: &[u8]) -> Result<u8, Unanswered> {
     }
 }
 
-// The value of a hex digit, lower case alone.
+// The value of a hex digit. (By hand: `from_str_radix` takes a plus sign and upper case too.)
 fn digit(byte: u8) -> Result<u8, Unanswered>
     ensures { IfOk result (λ value. value < 16) }
 {

@@ -1,4 +1,4 @@
-// The calls of a book with a row of sums.
+// The calls of a book with a row of sums. (Beside those of books.rt: they differ by the row, and what they share is in `updated` and `ran`.)
 use crate::books::{ran, updated};
 use crate::reading::{bytes, number};
 use crate::text::Answer;

@@ -23,7 +23,7 @@ pub(crate) fn salvage(alloc: Global, record: &str, ring: &str, numbers: &str) ->
     salvaged(alloc, Salvaged::of(book, answer), &ring, &numbers)
 }
 
-// The same, and the row of sums.
+// The same, and the row of sums. (Not one with `salvage`: the calls differ by the row, and what they share is in `salvaged`.)
 pub(crate) fn salvage_row(
     alloc: Global,
     record: &str,

@@ -76,12 +76,13 @@ pub fn step(
         return Err(Refusal::BufferTooShort);
     }
     let turn = decide(state, ring, last, rest, over);
+    // (No run comes to the last frame number.)
     let frame = state.frames.saturating_add(1);
     let wrote = say::turn(frame, turn, out);
     Ok(Stepped { turn, wrote })
 }
 
-// What the bytes at hand lead to; nothing is written yet.
+// What the bytes at hand lead to; nothing is written yet. (The parameters are those of `step`, which is public and keeps them.)
 fn decide(state: State, ring: &mut [u8], last: &[u8], rest: &[u8], over: bool) -> Turn
     ensures { (as_turn result ≡ (outcome_of state ring.old last.now rest.now over).turn) × (ring.new ≡ (outcome_of state ring.old last.now rest.now over).ring) }
 {

@@ -30,6 +30,7 @@ pub(crate) fn short_yet(refusal: Refusal, over: bool) -> bool
 }
 
 // The word of a verdict. (No run of the program comes to `resting`.)
+// Not by `From`: both types are of other crates, and an impl has to stand in one of theirs.
 fn verdict_word(verdict: Verdict) -> Word
     ensures { result ≡ verdict_word verdict }
 {
@@ -41,7 +42,7 @@ fn verdict_word(verdict: Verdict) -> Word
     }
 }
 
-// The word of an answer: `early` where there is no verdict yet.
+// The word of an answer: `early` where there is no verdict yet. (Not by `From` either: neither type is of this crate.)
 fn word_of(ruling: Result<Notice, Refusal>) -> Word
     ensures { result ≡ word_of (as_ruling ruling) }
 {

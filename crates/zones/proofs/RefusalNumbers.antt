@@ -5,14 +5,19 @@ use native.Mathlib.Omega.{arith}
 use mathlib.Core.Bool.{Bool, true, false, cond}
 use mathlib.Core.List.{List, [], ◌∷◌}
 use mathlib.Core.Logic.{◌⊎◌, inl, inr}
-use mathlib.Core.Path.{◌≡◌, refl}
+use mathlib.Core.Path.{◌≡◌, refl, sym, ap, ◌∙◌}
+use Rattle.std.specs.Prelude.{Result, Ok, Err, is_err}
 use lib.Dec.{ltb}
+use Rattle.refusals.specs.declared.Refusal.{Refusal}
 use Rattle.refusals.specs.Numbers.{no_book, book_rests, item_too_large}
+use Rattle.refusals.specs.Refused.{number_in}
 use Rattle.refusals.specs.First.{or_else}
 use Rattle.refusals.proofs.Laws.{first_only}
+use Rattle.refusals.proofs.Numbers.{number_not_0}
 use Rattle.book.specs.declared.Book.{Book}
 use Rattle.book.specs.Resting.{rests}
 use Rattle.book.specs.Calls.{record_faults}
+use Rattle.zones.specs.Named.{names_zone}
 use Rattle.zones.specs.Lowest.{record_refusal, taking_refusal, record_refusals, taking_refusals, refusal_of_lowest}
 
 -- what holds of both numbers holds of the one before the other
@@ -57,3 +62,20 @@ takings_not_8 zones counts e = by (takings_17_or_7 zones counts (λ none. omega 
     by : (refusal_of_lowest (taking_refusals zones counts) ≡ book_rests) ⊎ (refusal_of_lowest (taking_refusals zones counts) ≡ item_too_large) → ⊥
     by (inl f) = omega (arith, e, f)
     by (inr f) = omega (arith, e, f)
+
+-- a record's own refusal names its zone, and so does that of taking a count
+pub record_names : (book : Book) → (record_refusal book ≡ 0 → ⊥) → names_zone (record_refusal book) ≡ true
+record_names book some = ap names_zone (first_only no_book (record_faults book) tt some)
+
+pub taking_names : (book : Book) (item : ℕ) → (taking_refusal book item ≡ 0 → ⊥) → names_zone (taking_refusal book item) ≡ true
+taking_names book item some = by (taking_17_or_7 book item some)
+  where
+    by : (taking_refusal book item ≡ book_rests) ⊎ (taking_refusal book item ≡ item_too_large) → names_zone (taking_refusal book item) ≡ true
+    by (inl e) = ap names_zone e
+    by (inr e) = ap names_zone e
+
+-- so an answer that tells such a refusal, or none, names a zone exactly where it is refused
+pub err_names : {T : Type 0} (answer : Result T Refusal) (number : ℕ) → number_in answer ≡ number → ((number ≡ 0 → ⊥) → names_zone number ≡ true)
+    → is_err answer ≡ names_zone (number_in answer)
+err_names (Ok given) number is names = refl
+err_names (Err refusal) number is names = sym (ap names_zone is ∙ names (λ none. number_not_0 refusal (is ∙ none)))

@@ -1,7 +1,7 @@
 -- The results of the calls with zones in numbers, as the calls' rows have them (specs/Calls.antt) and C is told them.
 use Rattle.std.specs.Prelude.{ℕ, Result, Ok, Err, Option, Some, None}
 use Rattle.refusals.specs.Refused.{number_of}
-use Rattle.zones.specs.declared.ZoneRefusal.{ZoneRefusal}
+use Rattle.zones.specs.declared.refused.ZoneRefusal.{ZoneRefusal}
 use Rattle.zones.specs.declared.told.Zoned.{Zoned}
 
 -- the zone that is named, or 0

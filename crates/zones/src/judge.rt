@@ -1,14 +1,15 @@
-// What is asked before anything is changed: 20 of the number of zones, 8 of every record, 4 of the ring bytes, then 17 and 7 of the zones that have
-// a count. The counts are for as many zones in a row.
-ghost use Rattle.std.specs.Prelude.{◌≡◌, ◌+◌, ◌≤◌, IsTrue, ◌↔◌, ◌*◌, IfOk, None, length};
+// What is asked before anything is changed: BadZones of the number of zones, NoBook of every record, RingTooShort of the ring bytes, then BookRests
+// and ItemTooLarge of the zones that have a count. The counts are for as many zones in a row.
+ghost use Rattle.std.specs.Prelude.{◌≡◌, ◌+◌, ◌≤◌, IsTrue, ◌↔◌, ◌*◌, IfOk, is_err, false, length};
 ghost use Rattle.refusals.specs.Refused.{number_of, number_in};
 ghost use Rattle.refusals.specs.Call.{result_of};
 ghost use Rattle.book.specs.Record.{bytes_of};
 ghost use Rattle.book.specs.Sound.{Sound};
-ghost use Rattle.zones.specs.Told.{as_zoned};
+ghost use Rattle.zones.specs.Told.{refused_as, as_zoned};
 ghost use Rattle.zones.specs.Stretches.{stretch_start, all_bytes};
 ghost use Rattle.zones.specs.Lowest.{taking_refusal, record_refusals, taking_refusals};
 ghost use Rattle.zones.specs.Calls.{most_zones};
+ghost use Rattle.zones.specs.Named.{names_zone};
 ghost use Rattle.zones.specs.InARow.{told_of, lowest_from, row_call};
 
 use crate::ZoneRefusal;
@@ -26,7 +27,8 @@ pub(crate) fn how_many(zones: usize) -> bool
 
 // A refusal for which no zone is to blame.
 pub(crate) fn of_call(refusal: Refusal) -> ZoneRefusal
-    ensures { result ≡ record { refusal = refusal; zone = None } }
+    requires { names_zone (number_of refusal) ≡ false }
+    ensures { refused_as result ≡ record { refusal = number_of refusal; zone = 0 } }
 {
     ZoneRefusal {
         refusal,
@@ -34,17 +36,21 @@ pub(crate) fn of_call(refusal: Refusal) -> ZoneRefusal
     }
 }
 
-// What is found of one zone: its refusal, with its number.
+// What is found of one zone: its refusal, which names a zone, with the zone's number.
 fn of_zone<T: Drop>(found: Result<T, Refusal>, zone: usize) -> Result<T, ZoneRefusal>
+    requires { is_err found ≡ names_zone (number_in found) }
     ensures { as_zoned result ≡ told_of (number_in found) zone }
 {
-    found.map_err(|refusal| ZoneRefusal {
-        refusal,
-        zone: Some(zone as u64),
-    })
+    match found {
+        Ok(given) => Ok(given),
+        Err(refusal) => Err(ZoneRefusal {
+            refusal,
+            zone: Some(zone as u64),
+        }),
+    }
 }
 
-// 8, 4, then 17 or 7. Where nothing is refused it tells where the stretch of zone `low` starts.
+// NoBook, RingTooShort, then BookRests or ItemTooLarge. Where nothing is refused it tells where the stretch of zone `low` starts.
 pub(crate) fn in_a_row(
     zones: &[Book],
     rings: &[u8],
@@ -65,8 +71,8 @@ pub(crate) fn in_a_row(
     Ok(start)
 }
 
-// 8, of the lowest of these zones whose record is no book; the first of them has the number `first`. Where all are books it tells the bytes that
-// their stretches take.
+// NoBook, of the lowest of these zones whose record is no book; the first of them has the number `first`. Where all are books it tells the bytes
+// that their stretches take.
 fn books(zones: &[Book], first: usize) -> Result<usize, ZoneRefusal>
     requires { first + length zones.now ≤ most_zones }
     ensures told { as_zoned result ≡ lowest_from first (record_refusals zones.now) }
@@ -91,7 +97,7 @@ pub(crate) fn bytes(book: Book) -> usize
     }
 }
 
-// 17 or 7, of the lowest of these zones that does not take its count.
+// BookRests or ItemTooLarge, of the lowest of these zones that does not take its count.
 fn counts_taken(zones: &[Book], first: usize, counts: &[u64]) -> Result<(), ZoneRefusal>
     requires { (length counts.now ≤ length zones.now) × (first + length zones.now ≤ most_zones) }
     ensures { as_zoned result ≡ lowest_from first (taking_refusals zones.now counts.now) }
@@ -102,7 +108,7 @@ fn counts_taken(zones: &[Book], first: usize, counts: &[u64]) -> Result<(), Zone
     Ok(())
 }
 
-// 17, then 7.
+// BookRests, then ItemTooLarge.
 fn takes(book: Book, count: u64) -> Result<(), Refusal>
     ensures { number_in result ≡ taking_refusal book count }
 {

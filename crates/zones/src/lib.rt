@@ -14,14 +14,10 @@ use refusals::Refusal;
 
 mod adding;
 mod judge;
+mod refused;
 pub mod told;
 
-// Why a call is refused; and where a zone is to blame, for its record, its rest or its count, the number of that zone, from 0.
-#[derive(Clone, Copy)]
-pub struct ZoneRefusal {
-    pub refusal: Refusal,
-    pub zone: Option<u64>,
-}
+pub use refused::ZoneRefusal;
 
 // Adds to every zone the count that stands in its place, to all of them or to none.
 pub fn add_all(zones: &mut [Book], rings: &mut [u8], counts: &[u64]) -> Result<(), ZoneRefusal>

@@ -29,7 +29,8 @@ module _ (book : Book) (ring : List ℕ) (amount : ℕ) {found : Result Known Re
           → as_window (ok_or (unless_0 window) NotReached) ≡ result_of (how_far_call book ring amount)
       by zero e = (judged.own_refused _ passed NotReached (rw (ne_eqb amount 0 some, e))).0
       by (suc window) e =
-          ap (λ (w : ℕ). record { refusal = 0; window = w }) (sym e) ∙ (judged.taken _ passed (rw (ne_eqb amount 0 some, ne_eqb (how_far_back book ring amount) 0 (λ z. omega (arith, z, e))))).0
+          let reached = ne_eqb (how_far_back book ring amount) 0 (λ z. omega (arith, z, e)) in
+          ap (λ (w : ℕ). record { refusal = 0; window = w }) (sym e) ∙ (judged.taken _ passed (rw (ne_eqb amount 0 some, reached))).0
 
 pub returns-in_err-known : goal.returns-in_err-known
 unfolding how_far_call

@@ -38,12 +38,14 @@ returns-then-book-window c = too_long c.args.book c.args.ring.now c.args.window 
 pub returns-then-book-window-2 : goal.returns-then-book-window-2
 returns-then-book-window-2 c = too_long c.args.book c.args.ring.now c.args.window c.args.more c.usable.ensures c.in_ok-known.was (omega arith)
 
+abbrev both : List ℕ → ℕ → ℕ → Book → Figures
+both ring window more book = record { refusal = 0; shorter = figure book ring window; longer = figure book ring (window + more) }
+
 pub returns : goal.returns
 unfolding two_totals_call
 returns c =
     let short = le-ltb c.args.book.kept (c.args.window + c.args.more) (omega arith) in
     let j = judged c.args.book c.args.ring.now c.args.window c.args.more c.usable.ensures in
     ap (λ (both : BothFigures). record { refusal = 0; shorter = both.shorter; longer = both.longer }) c.figures.ensures
-    ∙ ap {B = Figures} (λ (b : Book). record { refusal = 0; shorter = figure b c.args.ring.now c.args.window; longer = figure b c.args.ring.now (c.args.window + c.args.more) })
-    (j.same _ c.in_ok-known.was)
+    ∙ ap {B = Figures} (both c.args.ring.now c.args.window c.args.more) (j.same _ c.in_ok-known.was)
     ∙ (j.taken _ c.in_ok-known.was (rw short)).0

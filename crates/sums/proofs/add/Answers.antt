@@ -13,7 +13,7 @@ use Rattle.book.specs.Adding.{added}
 use Rattle.book.specs.Calls.{add_call}
 use Rattle.book.proofs.Promises.{add_number, add_known, add_gives}
 use Rattle.sums.specs.Row.{stored}
-use Rattle.sums.proofs.ShapeInUse.{use_slots, use_lent}
+use Rattle.sums.proofs.ShapeInUse.{use_slots}
 use Rattle.sums.proofs.BesideTheBook.{answers, refuses}
 use Rattle.sums.proofs.Taken.{add_beside}
 use Rattle.sums.proofs.ItemWithRow.{closed_by_phase, open_by_phase, row_stored, row_stays, usable_after}
@@ -46,6 +46,12 @@ returns-in_err-added c =
     (λ e. number_not_0 c.in_err-added.field-0.0 (ap (λ (u : Updated). u.refusal) told ∙ add_number a.book a.ring.now a.item ∙ e))
     told c.in_err-added.ensures.1)
 
+pub invariant_of-store : goal.invariant_of-store
+invariant_of-store c =
+    let a = c.args in
+    let known = add_known a.book a.ring.now a.item (taken a.book a.ring.now a.item c.in_ok-added.ensures.0) in
+    record { sound = known.0.sound; derived = c.in_ok-shape.ensures.0 }
+
 pub store-requires : goal.store-requires
 store-requires c =
     let a = c.args in
@@ -53,8 +59,8 @@ store-requires c =
     let known = add_known a.book a.ring.now a.item (taken a.book a.ring.now a.item told) in
     let ring_is = c.in_ok-added.ensures.1 ∙ (add_gives a.book a.ring.now a.item (taken a.book a.ring.now a.item told)).1 in
     let slots = use_slots c.in_ok-shape.ensures.0 known.0.sound in (
-      use_lent c.in_ok-shape.ensures.0
-          (subst (λ (r : List ℕ). Usable a.book (length r)) (sym ring_is) (usable_after a.book a.item a.ring.now known.0 known.1)),
+      rw c.in_ok-shape.ensures.0
+          (subst (λ (r : List ℕ). Usable a.book (length r)) (sym ring_is) (usable_after a.book a.item a.ring.now known.0 known.1)).room,
       slots.2,
       omega (arith, slots.0, c.in_ok-shape.ensures.1),
     )

@@ -1,7 +1,6 @@
 -- `zones::add_one`: the call is refused with 20, or it is adding to zones in a row.
 -- Assumes nothing.
 use Rattle.std.proofs.Common.{◌≡◌, true, false, refl, ap, ◌∙◌, arith}
-use Rattle.zones.specs.Told.{refused_as}
 use Rattle.zones.specs.Stretches.{ZonesAndRings}
 use Rattle.zones.proofs.EarlyFaults.{one_20, one_fits}
 use Rattle.zones.proofs.add_one.Goals as goal
@@ -14,7 +13,7 @@ returns-then-not-how_many c =
       | then-not-how_many-via-then-not-how_many w ↦ (let no : false ≡ true = w.if-not-how_many.ensures.1 many in cc)
       | then-not-how_many-via-else-not-how_many+then-zones-zone w ↦ (let behind = w.if-zones-zone.true in omega arith)
     ]) in
-    (ap refused_as c.of_call.ensures ∙ is.0, is.1, is.2)
+    (c.of_call.ensures ∙ is.0, is.1, is.2)
 
 pub returns : goal.returns
 returns c =

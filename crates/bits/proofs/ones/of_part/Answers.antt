@@ -10,5 +10,5 @@ returns-then-from-to c = omega (arith, between_le c.args.row.now c.args.from c.a
 
 pub returns : goal.returns
 returns c = let a = c.args in
-    ap (λ (mask : ℕ). ones (get_or a.row.now (a.from / 8) 0 % mask / 2 ^ (8 - a.from % 8 - (a.to - a.from)))) (one_shl (8 - a.from % 8) 32 (omega arith))
+    rw c.from.ensures (ap (λ (mask : ℕ). ones (get_or a.row.now (a.from / 8) 0 % mask / 2 ^ (8 - a.from % 8 - (a.to - a.from)))) (one_shl (8 - a.from % 8) 32 (omega arith)))
     ∙ part_of_byte a.row.now (λ i. (c.type_inv.row i).fits) (omega arith) c.requires.one c.requires.there

@@ -14,7 +14,9 @@ bits_le {slots} {largest} h width_is =
 
 -- the bytes are what the ring takes
 bytes_is : (width slots : ℕ) {bytes : ℕ} → bytes ≡ slots * width / 8 + min 1 (slots * width % 8) → bytes ≡ ring_bytes width slots
-bytes_is width slots e = e ∙ (let up : slots * width / 8 + min 1 (slots * width % 8) ≡ (slots * width + 7) / 8 = omega arith in up) ∙ sym (bytes_are width slots)
+bytes_is width slots e =
+    let up : slots * width / 8 + min 1 (slots * width % 8) ≡ (slots * width + 7) / 8 = omega arith in
+    e ∙ up ∙ sym (bytes_are width slots)
 
 pub overflow_mul-slots : goal.overflow_mul-slots
 overflow_mul-slots c = omega (arith, bits_le c.requires c.binary_digits-width.ensures)

@@ -5,4 +5,4 @@ use Rattle.coarse.specs.Quotients.{quotients}
 use Rattle.coarse.proofs.tally.gather.Given as goal
 
 abbrev pub invariant-loop-i : goal.invariant-loop-i
-invariant-loop-i l = take l.i l.part ≡ take l.i (quotients l.book l.ring l.j)
+invariant-loop-i l = take l.i l.part ≡ take l.i (quotients l.known.book l.ring l.j)

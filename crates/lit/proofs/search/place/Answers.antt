@@ -13,4 +13,4 @@ overflow_add-place c = let there = c.in_ok-byte.ensures.lookup.3.0 in omega (ari
 pub returns : goal.returns
 returns c = let there = c.in_ok-byte.ensures.lookup.3 in
     c.then_some.ensures
-    ∙ found_within c.requires.stopped c.args.count c.requires.enough there.0 _ _ (there.1 0) c.in_byte.ensures
+    ∙ found_within c.requires.stopped c.args.count c.requires.enough there.0 _ _ (there.1 0) (c.from.ensures ∙ c.in_byte.ensures)

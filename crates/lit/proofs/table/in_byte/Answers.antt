@@ -10,4 +10,4 @@ returns-then-k-eq0 c = none_outside c.args.byte c.args.k c.then-k-eq0.either
 -- the whole table at once: `entries 2048 0`, which is what its rule comes to, is compared by computing with the constant that the code reads
 pub returns : goal.returns
 unfolding one_places
-returns c = by_table c.args.byte c.args.k (omega arith) (omega arith) (omega arith)
+returns c = rw c.from.ensures (by_table c.args.byte c.args.k (omega arith) (omega arith) (omega arith))

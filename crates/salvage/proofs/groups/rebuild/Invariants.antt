@@ -6,4 +6,4 @@ use Rattle.salvage.proofs.RowFromFields.{Summed}
 use Rattle.salvage.proofs.groups.rebuild.Given as goal
 
 abbrev pub invariant-loop-entry : goal.invariant-loop-entry
-invariant-loop-entry l = Summed l.shape.slots (field l.shape.width l.ring) l.initial.entry-items l.entry-items l.entry-index l.sum l.from
+invariant-loop-entry l = Summed l.known.shape.slots (field l.known.shape.width l.ring) l.initial.entry-items l.entry-items l.entry-index l.sum l.from

@@ -6,4 +6,4 @@ use Rattle.salvage.proofs.WalkTurns.{Going}
 use Rattle.salvage.proofs.walk.every_slot.Given as goal
 
 abbrev pub invariant-loop-newer : goal.invariant-loop-newer
-invariant-loop-newer l = Going l.book l.initial.ring l.initial.numbers (walk_of l.ring l.numbers l.found.count (nth l.found.newer)) l.newer
+invariant-loop-newer l = Going l.known.book l.initial.ring l.initial.numbers (walk_of l.ring l.numbers l.found.count (nth l.found.newer)) l.newer

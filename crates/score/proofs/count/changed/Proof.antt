@@ -29,7 +29,7 @@ left allowance maxval per count first second {threshold} {near} is_per is-count 
     (omega (arith, counted_near, all), rw (is_per, is-count) (omega (arith, counted_near, all)))
 
 -- with one byte a pixel
-module _ (c : tie.After-near_of-near) where
+module _ (c : tie.After-near_bytes-near) where
   abbrev small : tie.Then-maxval-le-BYTE_MOST
   small = c.before.before
 
@@ -37,14 +37,14 @@ module _ (c : tie.After-near_of-near) where
   start = small.before.before.before
 
   left_of_bytes : let a = start.args in
-      Left a.allowance a.maxval (length a.first.now) c.near_of-near.result a.first.now a.second.now
+      Left a.allowance a.maxval (length a.first.now) c.near_bytes-near.result a.first.now a.second.now
   left_of_bytes =
       let a = start.args in
       left a.allowance a.maxval 1 (length a.first.now) a.first.now a.second.now
-      (pixel_bytes_one a.maxval small.if-maxval-le-BYTE_MOST.true) (omega arith) c.before.byte_threshold.ensures c.near_of-near.ensures
+      (pixel_bytes_one a.maxval small.if-maxval-le-BYTE_MOST.true) (omega arith) c.before.byte_threshold.ensures c.near_bytes-near.ensures
 
 -- with two
-module _ (c : tie.After-near_of-near-2) where
+module _ (c : tie.After-near_pairs-near) where
   abbrev large : tie.Else-maxval-le-BYTE_MOST
   large = c.before.before
 
@@ -52,17 +52,17 @@ module _ (c : tie.After-near_of-near-2) where
   start2 = large.before.before.before
 
   left_of_pairs : let a = start2.args in
-      Left a.allowance a.maxval (length a.first.now / 2) c.near_of-near-2.result a.first.now a.second.now
+      Left a.allowance a.maxval (length a.first.now / 2) c.near_pairs-near.result a.first.now a.second.now
   left_of_pairs =
       let a = start2.args in
       left a.allowance a.maxval 2 (length a.first.now / 2) a.first.now a.second.now
-      (pixel_bytes_two a.maxval large.if-maxval-le-BYTE_MOST.false) (omega arith) c.before.threshold.ensures c.near_of-near-2.ensures
+      (pixel_bytes_two a.maxval large.if-maxval-le-BYTE_MOST.false) (omega arith) c.before.threshold.ensures c.near_pairs-near.ensures
 
 byte-threshold-requires : tie.Need-byte_threshold-requires
 byte-threshold-requires c κs = search rules
 
-near-of-requires : tie.Need-near_of-near-requires
-near-of-requires c κs = search rules
+near-bytes-requires : tie.Need-near_bytes-near-requires
+near-bytes-requires c κs = search rules
 
 cast-result : tie.Need-overflow_cast-result
 cast-result c = search rules
@@ -80,8 +80,8 @@ cast-near-of : tie.Need-overflow_cast-threshold
 cast-near-of c = let a = c.before.before.before.before.args in
     omega (arith, c.threshold.ensures, threshold_most a.allowance a.maxval (omega arith))
 
-near-of-requires-2 : tie.Need-near_of-near-requires-2
-near-of-requires-2 c κs = search rules
+near-pairs-requires : tie.Need-near_pairs-near-requires
+near-pairs-requires c κs = search rules
 
 cast-result-2 : tie.Need-overflow_cast-result-2
 cast-result-2 c = search rules
@@ -97,13 +97,13 @@ changed_spec =
     tie.close
     (tie.spec
     byte-threshold-requires
-    near-of-requires
+    near-bytes-requires
     cast-result
     sub-result
     returns
     threshold-requires
     cast-near-of
-    near-of-requires-2
+    near-pairs-requires
     cast-result-2
     sub-result-2
     returns-2)

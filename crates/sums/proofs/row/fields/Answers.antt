@@ -11,6 +11,7 @@ use Rattle.sums.specs.Row.{sum_from}
 use Rattle.sums.proofs.SumsOfFields.{from_none}
 use Rattle.sums.proofs.FieldsInRange.{ring_answers}
 use Rattle.sums.proofs.Answered.{ring_ok}
+use Rattle.sums.proofs.ShapeInUse.{lent_whole}
 use Rattle.sums.proofs.row.fields.Goals as goal
 
 summed : (width slots : ℕ) (ring : List ℕ) (from to : ℕ) (answer : Result ℕ Refusal) → Lent width slots (length ring) → from < to → to ≤ slots
@@ -21,12 +22,12 @@ summed width slots ring from to answer whole some within told =
 pub returns-then-to-from : goal.returns-then-to-from
 returns-then-to-from c =
     let none : c.args.to - c.args.from ≡ 0 = omega arith in
-    rw none (sym (from_none (field c.args.shape.width c.args.ring.now) c.args.from))
+    rw none (sym (from_none (field c.args.known.shape.width c.args.ring.now) c.args.from))
 
 pub unwrap-requires : goal.unwrap-requires
-unwrap-requires c = rw (summed _ _ _ _ _ c.sum.result c.requires.0 c.if-to-from.false c.requires.2 c.sum.ensures)
+unwrap-requires c = rw (summed _ _ _ _ _ c.sum.result (lent_whole c.args.known c.requires.0) c.if-to-from.false c.requires.2 c.sum.ensures)
 
 pub returns : goal.returns
 returns c =
-    let is = summed _ _ _ _ _ c.sum.result c.requires.0 c.if-to-from.false c.requires.2 c.sum.ensures in
+    let is = summed _ _ _ _ _ c.sum.result (lent_whole c.args.known c.requires.0) c.if-to-from.false c.requires.2 c.sum.ensures in
     cc

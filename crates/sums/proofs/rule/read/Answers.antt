@@ -7,6 +7,7 @@ use Rattle.sums.specs.Row.{sum_from}
 use Rattle.sums.specs.declared.rule.Parts.{Parts}
 use Rattle.sums.specs.Rule.{parts_of}
 use Rattle.sums.proofs.FieldsInRange.{sum_small}
+use Rattle.sums.proofs.ShapeInUse.{use_slots, lent_whole}
 use Rattle.sums.proofs.ByTheRule.{Reads, what_is_read}
 use Rattle.sums.proofs.rule.read.Goals as goal
 
@@ -22,6 +23,9 @@ few width slots from to front back ring whole reads =
     let small = sum_small width slots ring whole in
     omega (arith, reads.few, small from (front - from), small back (to - back))
 
+pub split-parts-requires : goal.split-parts-requires
+split-parts-requires c = (c.requires.2, c.requires.3, (use_slots c.args.known.derived c.args.known.sound).1)
+
 pub fields-front-requires : goal.fields-front-requires
 fields-front-requires c =
     let k = known c.split-parts.ensures c.requires.2 c.requires.3 in
@@ -36,12 +40,12 @@ stored_at-requires c = omega (arith, (known c.split-parts.ensures c.requires.2 c
 pub overflow_add-result : goal.overflow_add-result
 overflow_add-result c =
     let k = known c.split-parts.ensures c.requires.2 c.requires.3 in
-    record { fits = omega (arith, few c.args.shape.width c.args.shape.slots c.args.from c.args.to c.split-parts.result.front c.split-parts.result.back c.args.ring.now c.requires.0 k, c.fields-front.ensures, c.stored_at.ensures.1) }
+    record { fits = omega (arith, few c.args.known.shape.width c.args.known.shape.slots c.args.from c.args.to c.split-parts.result.front c.split-parts.result.back c.args.ring.now (lent_whole c.args.known c.requires.0) k, c.fields-front.ensures, c.stored_at.ensures.1) }
 
 pub overflow_add-result-2 : goal.overflow_add-result-2
 overflow_add-result-2 c =
     let k = known c.split-parts.ensures c.requires.2 c.requires.3 in
-    record { fits = omega (arith, few c.args.shape.width c.args.shape.slots c.args.from c.args.to c.split-parts.result.front c.split-parts.result.back c.args.ring.now c.requires.0 k, c.fields-front.ensures, c.fields-back.ensures, c.stored_at.ensures.1) }
+    record { fits = omega (arith, few c.args.known.shape.width c.args.known.shape.slots c.args.from c.args.to c.split-parts.result.front c.split-parts.result.back c.args.ring.now (lent_whole c.args.known c.requires.0) k, c.fields-front.ensures, c.fields-back.ensures, c.stored_at.ensures.1) }
 
 pub stored_at-requires-2 : goal.stored_at-requires-2
 stored_at-requires-2 c = omega (arith, (known c.split-parts.ensures c.requires.2 c.requires.3).minus_within)
@@ -58,4 +62,4 @@ overflow_add-result-3 c = record { fits = omega (arith, (known c.split-parts.ens
 pub returns-clause-small : goal.returns-clause-small
 returns-clause-small c =
     let k = known c.split-parts.ensures c.requires.2 c.requires.3 in
-    (omega (arith, few c.args.shape.width c.args.shape.slots c.args.from c.args.to c.split-parts.result.front c.split-parts.result.back c.args.ring.now c.requires.0 k, c.fields-front.ensures, c.fields-back.ensures, c.stored_at.ensures.1), c.stored_at-2.ensures.1, k.few, omega (arith, k.two, c.read_at.ensures, c.read_at-2.ensures))
+    (omega (arith, few c.args.known.shape.width c.args.known.shape.slots c.args.from c.args.to c.split-parts.result.front c.split-parts.result.back c.args.ring.now (lent_whole c.args.known c.requires.0) k, c.fields-front.ensures, c.fields-back.ensures, c.stored_at.ensures.1), c.stored_at-2.ensures.1, k.few, omega (arith, k.two, c.read_at.ensures, c.read_at-2.ensures))

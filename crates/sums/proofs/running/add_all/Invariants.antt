@@ -5,7 +5,7 @@ use Rattle.sums.proofs.RunTurns.{Going}
 use Rattle.sums.proofs.running.add_all.Given as goal
 
 abbrev pub invariant-loop-left : goal.invariant-loop-left
-invariant-loop-left l = Going l.fn.book l.shape l.initial.ring l.initial.row l.counts l.ring l.row l.left l.after l.from
+invariant-loop-left l = Going l.fn.known.book l.shape l.initial.ring l.initial.row l.counts l.ring l.row l.left l.after l.from
 
 abbrev pub decreases-loop-left : goal.decreases-loop-left
 decreases-loop-left l = length l.left

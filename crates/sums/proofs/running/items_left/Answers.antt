@@ -6,16 +6,16 @@ use Rattle.sums.proofs.RunTurns.{end_ahead, span_top, span_low, span_left}
 use Rattle.sums.proofs.running.items_left.Goals as goal
 
 pub group_end-requires : goal.group_end-requires
-group_end-requires c = omega (arith, use_slots c.requires.1 c.requires.0)
+group_end-requires c = omega (arith, use_slots c.args.known.derived c.args.known.sound)
 
 pub overflow_sub-result : goal.overflow_sub-result
-overflow_sub-result c = omega (arith, end_ahead c.requires.0 c.requires.1 c.group_end.ensures)
+overflow_sub-result c = omega (arith, end_ahead c.args.known.sound c.args.known.derived c.group_end.ensures)
 
 pub overflow_mul-result : goal.overflow_mul-result
-overflow_mul-result c = omega (arith, span_top c.requires.0 c.requires.1 c.group_end.ensures)
+overflow_mul-result c = omega (arith, span_top c.args.known.sound c.args.known.derived c.group_end.ensures)
 
 pub overflow_sub-result-2 : goal.overflow_sub-result-2
-overflow_sub-result-2 c = span_low c.requires.0 c.requires.1 c.group_end.ensures
+overflow_sub-result-2 c = span_low c.args.known.sound c.args.known.derived c.group_end.ensures
 
 pub returns : goal.returns
-returns c = span_left c.requires.0 c.requires.1 c.group_end.ensures
+returns c = span_left c.args.known.sound c.args.known.derived c.group_end.ensures

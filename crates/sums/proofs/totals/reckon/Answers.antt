@@ -6,4 +6,4 @@ use Rattle.sums.proofs.totals.reckon.Goals as goal
 
 pub returns : goal.returns
 returns c =
-    omega (arith, reckoned_is c.args.book c.args.sum c.args.e c.args.g, c.saturating_sub.ensures, c.requires.0.ranges.tolerance_low)
+    omega (arith, reckoned_is c.args.known.book c.args.sum c.args.e c.args.g, c.saturating_sub.ensures, c.args.known.sound.ranges.tolerance_low)

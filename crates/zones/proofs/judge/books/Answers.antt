@@ -17,6 +17,7 @@ use Rattle.zones.specs.Stretches.{zone_at, stretch_start}
 use Rattle.zones.specs.Lowest.{record_refusal}
 use Rattle.zones.proofs.StartsInOrder.{start_first, start_next}
 use Rattle.zones.proofs.RefusalsByPlace.{record_known}
+use Rattle.zones.proofs.RefusalNumbers.{record_names, err_names}
 use Rattle.zones.proofs.LowestFound.{book_found, all_books}
 use Rattle.zones.proofs.judge.books.Goals as goal
 
@@ -40,6 +41,11 @@ returns-in_err-of_zone-clause-told c =
     ∙ book_found c.args.first c.args.zones.now c.loop-place.place c.loop-place-test.true c.loop-place.invariant.books_before (number_in c.wake.result)
     (woken (zone_at c.args.zones.now c.loop-place.place) c.wake.result c.wake.ensures)
     (λ none. number_not_0 refused.refusal (ap (λ (told : Zoned). told.refusal) c.in_err-of_zone.ensures ∙ none))
+
+pub of_zone-requires : goal.of_zone-requires
+of_zone-requires c =
+    let book = zone_at c.args.zones.now c.loop-place.place in
+    err_names c.wake.result (record_refusal book) (woken book c.wake.result c.wake.ensures) (record_names book)
 
 pub bytes-all-requires : goal.bytes-all-requires
 bytes-all-requires c =

@@ -1,12 +1,21 @@
 -- `zones::judge::counts_taken`: the first zone that does not take its count is the lowest.
 -- Assumes nothing.
-use Rattle.std.proofs.Common.{rules, ◌≡◌, Err, ap, ◌∙◌, arith}
+use Rattle.std.proofs.Common.{rules, ◌≡◌, Err, get_or, ap, ◌∙◌, arith}
 use Rattle.refusals.specs.Refused.{number_in}
 use Rattle.refusals.proofs.Numbers.{number_not_0}
 use Rattle.zones.specs.declared.told.Zoned.{Zoned}
 use Rattle.zones.specs.Told.{as_zoned}
+use Rattle.zones.specs.Stretches.{zone_at}
+use Rattle.zones.specs.Lowest.{taking_refusal}
+use Rattle.zones.proofs.RefusalNumbers.{taking_names, err_names}
 use Rattle.zones.proofs.LowestFound.{count_found, all_taken}
 use Rattle.zones.proofs.judge.counts_taken.Goals as goal
+
+pub of_zone-requires : goal.of_zone-requires
+of_zone-requires c =
+    let book = zone_at c.args.zones.now c.loop-place.place in
+    let count = get_or c.args.counts.now c.loop-place.place 0 in
+    err_names c.takes.result (taking_refusal book count) c.takes.ensures (taking_names book count)
 
 pub returns-in_err-of_zone : goal.returns-in_err-of_zone
 returns-in_err-of_zone c =

@@ -33,7 +33,7 @@ returns-in_err-more-clause-told c =
 pub returns-then-rings-start-clause-told : goal.returns-then-rings-start-clause-told
 returns-then-rings-start-clause-told c =
     let parts = parts_of (goal.at.returns-then-rings-start-clause-told c).After-split_at in
-    ap refused_as c.of_call.ensures
+    c.of_call.ensures
     ∙ row_4 c.args.zones.now c.args.rings.now c.args.low c.args.counts.now _ _ parts c.in_ok-start.ensures.told c.in_ok-more.ensures.told
     (omega (arith, c.in_ok-start.ensures.bytes.0, c.in_ok-more.ensures.bytes.0, c.if-rings-start.true))
 
