@@ -53,7 +53,11 @@ fn list<T: Drop, F: Fn(&str) -> Result<T, Unanswered>>(
     if text == "-" {
         return Ok(Vec::new(alloc));
     }
-    let items: Vec<T> = text.split(separator).map(item).try_collect(alloc)?;
+    let items: Vec<T> = text
+        .split(separator)
+        .take(most.saturating_add(1))
+        .map(item)
+        .try_collect(alloc)?;
     if items.len() > most {
         return Err(Unanswered::Unreadable);
     }

@@ -45,6 +45,7 @@ fn of_zone<T: Drop>(found: Result<T, Refusal>, zone: usize) -> Result<T, ZoneRef
         Ok(given) => Ok(given),
         Err(refusal) => Err(ZoneRefusal {
             refusal,
+            // `as`: std has no `From` from usize to u64, and a zone's number is below 96.
             zone: Some(zone as u64),
         }),
     }
@@ -92,6 +93,7 @@ pub(crate) fn bytes(book: Book) -> usize
     ensures { (result ≡ bytes_of book) × (result ≤ 8192) }
 {
     match shape::derive(book.bound, book.length, book.tolerance) {
+        // `as`: std has no `From` for it, and B is at most 8192.
         Ok(shape) => shape.bytes as usize,
         Err(_) => 0,
     }
@@ -102,6 +104,7 @@ fn counts_taken(zones: &[Book], first: usize, counts: &[u64]) -> Result<(), Zone
     requires { (length counts.now ≤ length zones.now) × (first + length zones.now ≤ most_zones) }
     ensures { as_zoned result ≡ lowest_from first (taking_refusals zones.now counts.now) }
 {
+    // By the zone's number: behind `zip(..).enumerate()` the loop's invariant has the iterator, and no place.
     for (place, count) in counts.iter().enumerate() {
         of_zone(takes(zones[place], *count), first + place)?;
     }

@@ -41,6 +41,7 @@ pub fn add_one(
     if !judge::how_many(zones.len()) || zones.len() as u64 <= zone {
         return Err(judge::of_call(Refusal::BadZones));
     }
+    // `as`: it is below the number of zones, which is a usize.
     add_in_a_row(zones, rings, zone as usize, &[item])
 }
 
