@@ -74,7 +74,7 @@ abbrev notice_or : Notice → Ruling → Notice
 notice_or other (Told notice) = notice
 notice_or other (Refused number) = other
 
-pub ruling_apart : (r r' : Result Notice Refusal) → as_ruling r ≡ as_ruling r' → r ≡ r'
+ruling_apart : (r r' : Result Notice Refusal) → as_ruling r ≡ as_ruling r' → r ≡ r'
 ruling_apart = seen_apart Told Refused refusal_in (λ notice. refl) (λ number. refl) (λ x y e. ap (notice_or x) e)
 
 -- OF A RUN two results can look alike, 7 with no place and a count above L at place 0. Where with 7 comes a place, neither is told
