@@ -11,7 +11,8 @@ pub use Rattle.sums.proofs.RowFirst.{item_18, run_18, total_18}
 pub use Rattle.sums.proofs.TotalWithRow.{total_row_gives, total_row_number, total_row_refused}
 -- a refused item or run hands the record back as it came, and a total leaves ring and row
 pub use Rattle.sums.proofs.ComesBack.{add_row_back, run_row_back, total_row_asks}
--- demand 1 and uniqueness of each
+-- demand 1 and uniqueness of each, and of the results themselves
+pub use Rattle.sums.proofs.OneOutcome.{open_row_settled, add_row_settled, run_row_settled, total_row_settled}
 pub use Rattle.sums.proofs.Demand1.{open_row_promised, add_row_promised, run_row_promised, total_row_promised, open_row_tells, add_row_tells, run_row_tells, total_row_tells, total_row_leaves}
 -- THE ROW. Which slots end a group, for all slots and of 65. Where an item closes a block the row is as storing leaves it, and otherwise it stays;
 -- storing puts the sum into the entry of the group that ends, if one does, and leaves every other entry. An opening's
