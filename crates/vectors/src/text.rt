@@ -1,16 +1,16 @@
 // How records, bytes, rows and refusals are written.
 use crate::reading::Unanswered;
+use crate::room::Text;
 use book::Book;
 use refusals::Refusal;
-use std::alloc::Global;
 use std::fmt;
 use std::fmt::{Display, Write};
 
-// The answer to a line, or why it has none.
-pub(crate) type Answer = Result<String, Unanswered>;
+// The answer to a line stands in its room, or the line has none.
+pub(crate) type Answer = Result<(), Unanswered>;
 
 // A record `L,n,D,R,p,kept,head,mark`.
-#[derive(Clone, Copy)]
+#[derive(Clone, Copy, Default)]
 pub(crate) struct Record(pub Book);
 
 impl Display for Record {
@@ -66,10 +66,9 @@ fn row(numbers: &[u32]) -> List<'_, u32> {
     }
 }
 
-// A text, and a row of numbers behind it.
-pub(crate) fn with_row(mut text: String, numbers: &[u32]) -> Answer {
-    write!(text, " {}", row(numbers))?;
-    Ok(text)
+// A row of numbers behind what is written.
+pub(crate) fn with_row(out: &mut Text, numbers: &[u32]) -> Answer {
+    Ok(write!(out, " {}", row(numbers))?)
 }
 
 // The number of a refusal, 0 for none.
@@ -79,11 +78,11 @@ pub(crate) fn refusal(answer: Result<(), Refusal>) -> u8 {
 
 // The refusal and a number, which is 0 at a refusal.
 pub(crate) fn refusal_and_number<N: Display + Drop>(
-    alloc: Global,
+    out: &mut Text,
     answer: Result<N, Refusal>,
 ) -> Answer {
     match answer {
-        Ok(number) => Ok(format!(in alloc; "0 {number}")?),
-        Err(refusal) => Ok(format!(in alloc; "{} 0", refusal.number())?),
+        Ok(number) => Ok(write!(out, "0 {number}")?),
+        Err(refusal) => Ok(write!(out, "{} 0", refusal.number())?),
     }
 }
