@@ -36,7 +36,7 @@ pub(crate) fn run<R: Read, W: Write>(
             break;
         }
         let end = kept.bytes + more;
-        let answered = answer_all(output, &buf[..end], kept.dropped, room);
+        let answered = answer_all(output, &buf[..end], kept, room);
         kept = keep(buf, answered, end, kept.dropped);
     }
     if kept.dropped || kept.bytes > 0 {
@@ -55,19 +55,21 @@ fn fill<R: Read>(input: &mut R, buf: &mut [u8], kept: usize) -> usize
     }
 }
 
-// Answers each whole line, and gives the place behind the last of them.
-fn answer_all<W: Write>(output: &mut W, text: &[u8], dropped: bool, room: &mut Room) -> usize
+// Answers each whole line, and gives the place behind the last of them. What was kept has no line feed.
+fn answer_all<W: Write>(output: &mut W, text: &[u8], kept: Kept, room: &mut Room) -> usize
+    requires { kept.bytes ≤ length text.now }
     ensures { result ≤ length text.now }
 {
-    let Some(last) = text.iter().rposition(|byte| *byte == b'\n') else {
+    let Some(last) = text[kept.bytes..].iter().rposition(|byte| *byte == b'\n') else {
         return 0;
     };
-    let mut dropped = dropped;
-    for line in text[..last].split(|byte| *byte == b'\n') {
+    let end = kept.bytes + last;
+    let mut dropped = kept.dropped;
+    for line in text[..end].split(|byte| *byte == b'\n') {
         answer(output, line, dropped, room);
         dropped = false;
     }
-    last + 1
+    end + 1
 }
 
 // Moves what is left behind the whole lines to the buffer's start. A line that fills the buffer is dropped, and what still comes of it too.
@@ -75,7 +77,9 @@ fn keep(buf: &mut [u8], answered: usize, end: usize, dropped: bool) -> Kept
     requires { (answered ≤ end) × (end ≤ length buf.old) }
     ensures { result.bytes ≤ length buf.old }
 {
-    buf.copy_within(answered..end, 0);
+    if answered > 0 {
+        buf.copy_within(answered..end, 0);
+    }
     let bytes = end - answered;
     if bytes == buf.len() {
         return Kept {
