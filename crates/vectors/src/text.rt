@@ -1,4 +1,6 @@
 // How records, bytes, rows and refusals are written.
+ghost use Rattle.std.specs.Prelude.{◌≤◌, length};
+
 use crate::reading::Unanswered;
 use crate::room::Text;
 use book::Book;
@@ -21,6 +23,32 @@ impl Display for Record {
     }
 }
 
+// How many bytes are turned into hex at once. (Byte by byte as `{byte:02x}`, a line with a long ring took half as long again.)
+const PART: usize = 32;
+
+const DIGITS: &[u8; 16] = b"0123456789abcdef";
+
+// The two digits of each byte, from the start of an array with room for those of a part.
+fn hex_of(part: &[u8]) -> [u8; 2 * PART]
+    requires { length part.now ≤ 32 }
+{
+    let mut digits = [b'0'; 2 * PART];
+    for (i, byte) in part.iter().enumerate() {
+        digits[2 * i] = DIGITS[usize::from(*byte / 16)];
+        digits[2 * i + 1] = DIGITS[usize::from(*byte % 16)];
+    }
+    digits
+}
+
+// A part in hex. (Digits are a text; that they are is asked here, and not proved.)
+fn write_part<W: fmt::Write>(f: &mut fmt::Formatter<W>, part: &[u8]) -> fmt::Result
+    requires { length part.now ≤ 32 }
+{
+    let digits = hex_of(part);
+    let text = str::from_utf8(&digits[..2 * part.len()]).map_err(|_| fmt::Error)?;
+    f.write_str(text)
+}
+
 // Bytes as hex, `-` for none.
 #[derive(Clone, Copy)]
 pub(crate) struct Hex<'a>(pub &'a [u8]);
@@ -30,8 +58,8 @@ impl Display for Hex<'_> {
         if self.0.is_empty() {
             return write!(f, "-");
         }
-        for byte in self.0 {
-            write!(f, "{byte:02x}")?;
+        for part in self.0.chunks(PART) {
+            write_part(f, part)?;
         }
         Ok(())
     }
