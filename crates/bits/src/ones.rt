@@ -1,5 +1,5 @@
 // Counting the ones of a row of bits: of eight bytes at a time while eight are there, of single bytes, and of a part of a byte at either end.
-ghost use Rattle.std.specs.Prelude.{◌≡◌, ◌+◌, ◌-◌, ◌*◌, ◌/◌, ◌%◌, ◌≤◌, ◌<◌, ◌^◌, length};
+ghost use Rattle.std.specs.Prelude.{◌≡◌, ◌+◌, ◌-◌, ◌*◌, ◌/◌, ◌%◌, ◌≤◌, ◌<◌, ◌^◌, min, length};
 ghost use Rattle.bits.specs.Row.{bits};
 ghost use Rattle.bits.specs.Ones.{ones_of, ones_between};
 
@@ -46,12 +46,11 @@ pub fn of_bytes(bytes: &[u8]) -> usize
 
 // The ones of the bits from `from` up to `to`, which lie in one byte. Where there are none the byte need not be there.
 fn of_part(row: &[u8], from: usize, to: usize) -> usize
-    requires order { from ≤ to }
     requires one { to - from ≤ 8 - from % 8 }
     requires there { to ≤ length row.now * 8 }
     ensures { result ≡ ones_between from to row.now }
 {
-    if from == to {
+    if to <= from {
         return 0;
     }
     // The bits before `from` are cut off, and then those behind `to`.
@@ -60,15 +59,26 @@ fn of_part(row: &[u8], from: usize, to: usize) -> usize
     part.count_ones() as usize
 }
 
+// Where a run up to bit `to` ends: no further than the row.
+fn end_within(row: &[u8], to: usize) -> usize
+    ensures { result ≡ min to (length row.now * 8) }
+{
+    if to / 8 < row.len() {
+        to
+    } else {
+        row.len() * 8
+    }
+}
+
 // How many of the bits from `from` up to `to` are 1, the highest bit of a byte first; behind the row's end there are none. A run with no byte's border
 // in it is one part of a byte.
 pub fn between(row: &[u8], from: usize, to: usize) -> usize
     ensures { result ≡ ones_between from to row.now }
 {
-    let to = to.min(row.len().saturating_mul(8));
     if to <= from {
         return 0;
     }
+    let to = end_within(row, to);
     let first = from.div_ceil(8);
     let last = to / 8;
     if last < first {
