@@ -38,9 +38,11 @@ pub use Rattle.sums.proofs.RowStays.{cleared_rest, all_rest, by_refusal_lem}
 pub use Rattle.sums.proofs.KeptRow.{stored_0, stored_entry}
 pub use Rattle.sums.proofs.Ends.{group_end_lem}
 -- SUMS OF FIELDS: of none, of a run between two sums from slot 0, and that they see nothing but their own fields; those of a ring stay small,
--- and are what the ring's own call sums
+-- and are what the ring's own call sums, and so what `row::fields` tells of some slots of a judged book's ring
 pub use Rattle.sums.proofs.SumsOfFields.{from_none, between, to_same}
-pub use Rattle.sums.proofs.FieldsInRange.{sum_small, ring_sums, ring_answers}
+pub use Rattle.sums.proofs.FieldsInRange.{sum_small, ring_sums, ring_answers, fields_sum}
+-- THE OLDEST of the newest slots, where the ring has so many
+pub use Rattle.sums.proofs.SumsOfFields.{oldest_newest}
 -- FOR CALLS ABOVE with a row beside a call of their own: what it then is, and what it tells
 pub use Rattle.sums.proofs.BesideTheBook.{beside_the_book, with_row_tells}
 -- the numbers that were derived of a book's L, n and D are its own
