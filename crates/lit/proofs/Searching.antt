@@ -111,7 +111,7 @@ module _ {row : List ℕ} {k at before : ℕ} (s : Stopped row k 1 at before) (c
 
     -- … where it has the place that the table gives
     module _ (byte inside : ℕ) (own : byte ≡ get_or row at 0) (table : inside ≡ place_in_byte byte (k - before)) where
-      found_at : at * 8 + inside ≡ select_of k (bits row)
+      pub found_at : at * 8 + inside ≡ select_of k (bits row)
       found_at =
           ap (λ (n : ℕ). at * 8 + n) (table ∙ ap (λ (x : ℕ). place_in_byte x (k - before)) own)
           ∙ sym
