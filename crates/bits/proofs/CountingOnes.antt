@@ -1,19 +1,21 @@
 -- Counting the ones of a row in parts: those between two bits, of bytes one behind the other, of a word of them, and of a part of one byte.
 -- Assumes nothing.
-use Prim.Native.Nat.{ℕ, zero, suc, ◌+◌, ◌-◌, ◌*◌, ◌/◌, ◌%◌, ◌^◌, ◌<◌, ◌≤◌}
-use native.Mathlib.Nat.{add_comm, suc-mul, mul-le-mul_right, pow-suc}
+use Prim.Native.Nat.{ℕ, zero, suc, ◌+◌, ◌-◌, ◌*◌, ◌/◌, ◌%◌, ◌^◌, ◌<◌, ◌≤◌, min}
+use native.Mathlib.Nat.{add_comm, suc-mul, mul-le-mul_right, pow-suc, mod-eq_of_lt}
 use native.Mathlib.Omega.{arith}
 use mathlib.Core.List.{List, [], ◌∷◌, ◌++◌}
+use mathlib.Core.Logic.{◌⊎◌, inl, inr}
 use mathlib.Core.Path.{◌≡◌, refl, sym, ap, ◌∙◌}
 use lib.Count.{ones, ones_cat}
-use lib.ListN.{length, get_or, take, drop, length-take}
+use lib.ListN.{length, get_or, take, drop, length-take, length-drop}
 use lib.Pow.{pow-add}
-use lib.Seq.{take-suc, take-add, drop-drop}
+use lib.Seq.{take-suc, take-add, take_all, drop-drop}
 use Rattle.std.specs.Int.{byte_worth, sum_through}
 use Rattle.std.proofs.lemmas.Nat.{field_of}
 use Rattle.bits.specs.Row.{digits, number, bits}
 use Rattle.bits.specs.Bytes.{Bytes}
 use Rattle.bits.specs.Ones.{ones_of, ones_between}
+use Rattle.bits.proofs.Parts.{le_or_lt}
 use Rattle.bits.proofs.Rows.{bits_append, length_bits, number_bits}
 use Rattle.bits.proofs.DigitsOfByte.{bits_take, bits_drop}
 use Rattle.bits.proofs.Words.{word_one}
@@ -44,6 +46,18 @@ between_le row from to =
 pub between_none : (row : List ℕ) (from : ℕ) → ones_between from from row ≡ 0
 between_none row from = omega (arith, between_le row from from)
 
+-- behind the row's end there are none
+pub between_clamped : (row : List ℕ) (from to : ℕ) → ones_between from (min to (length row * 8)) row ≡ ones_between from to row
+between_clamped row from to = by (le_or_lt to (length row * 8))
+  where
+    by : (to ≤ length row * 8) ⊎ (length row * 8 < to) → ones_between from (min to (length row * 8)) row ≡ ones_between from to row
+    by (inl there) = let e : min to (length row * 8) ≡ to = omega arith in ap (λ (end : ℕ). ones_between from end row) e
+    by (inr behind) =
+        let left : length (drop from (bits row)) ≡ length row * 8 - from = length-drop from (bits row) ∙ ap (λ (n : ℕ). n - from) (length_bits row) in
+        ap ones_of
+        (take_all (min to (length row * 8) - from) (drop from (bits row)) (omega arith)
+        ∙ sym (take_all (to - from) (drop from (bits row)) (omega arith)))
+
 -- BYTES. Two rows of bytes, one behind the other, have the ones of both
 pub bytes_append : (a b : List ℕ) → ones_of (bits (a ++ b)) ≡ ones_of (bits a) + ones_of (bits b)
 bytes_append a b = ap ones_of (bits_append a b) ∙ ones_append (bits a) (bits b)
@@ -51,6 +65,10 @@ bytes_append a b = ap ones_of (bits_append a b) ∙ ones_append (bits a) (bits b
 -- and no more than their bits
 pub bytes_le : (row : List ℕ) → ones_of (bits row) ≤ length row * 8
 bytes_le row = omega (arith, ones_le (bits row), length_bits row)
+
+-- so that of fewer than 2^61 bytes the number modulo 2^64 is the number
+pub bytes_fit : (row : List ℕ) → length row * 8 < 2 ^ 64 → ones_of (bits row) % 2 ^ 64 ≡ ones_of (bits row)
+bytes_fit row few = mod-eq_of_lt (omega (arith, bytes_le row))
 
 -- the ones of whole bytes are those between their first bit and their last
 pub between_bytes : (row : List ℕ) {first last : ℕ} → first ≤ last

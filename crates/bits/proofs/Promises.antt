@@ -65,5 +65,9 @@ pub use Rattle.bits.proofs.OnesOfPart.{ones_of_part}
 pub use Rattle.bits.proofs.CountingOnes.{between_join}
 -- no more are ones than there are bits, and of no bits none
 pub use Rattle.bits.proofs.CountingOnes.{between_le, between_none}
+-- and behind the row's end there are none
+pub use Rattle.bits.proofs.CountingOnes.{between_clamped}
 -- whole bytes have the ones between their first bit and their last
 pub use Rattle.bits.proofs.CountingOnes.{between_bytes}
+-- of fewer than 2^61 bytes their number modulo 2^64, as `of_bytes` counts them, is their number
+pub use Rattle.bits.proofs.CountingOnes.{bytes_fit}

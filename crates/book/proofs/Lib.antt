@@ -36,5 +36,6 @@ pub mod NotByTheMark
 pub mod DarkHours
 pub mod Demand1
 pub mod AsWritten
+pub mod OneOutcome
 pub mod CountedBlocks
 pub mod Promises

@@ -34,6 +34,9 @@ pub use Rattle.book.proofs.NotByTheMark.{figure_unmarked, total_unmarked, two_to
 pub use Rattle.book.proofs.Window0.{window_0, total_of_none}
 -- demand 1 and uniqueness of every public call
 pub use Rattle.book.proofs.Demand1.{derive_promised, open_promised, add_promised, run_promised, rest_promised, wake_promised, total_promised, two_totals_promised, far_promised, verdict_promised}
+-- … of the results themselves; each form in which results are seen is that of one, of a run where with 7 comes a place, as it does
+pub use Rattle.book.proofs.OneOutcome.{derive_settled, open_settled, add_settled, run_settled, rest_settled, wake_settled, total_settled, two_totals_settled, far_settled, verdict_settled}
+pub use Rattle.book.proofs.OneOutcome.{updated_apart, ran_apart, run_placed}
 -- a verdict leaves the ring, and tells its number whatever reads it off the answer
 pub use Rattle.book.proofs.Demand1.{derive_tells, open_tells, mark_tells, add_tells, run_tells, total_tells, two_totals_tells, far_tells, verdict_tells}
 pub use Rattle.book.proofs.Demand1.{shape_leaves, mark_leaves, total_leaves, two_totals_leaves, far_leaves, verdict_leaves}

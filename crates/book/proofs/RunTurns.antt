@@ -62,7 +62,7 @@ module _ {book : Book} {shape : Shape} {lent counts ring : List ℕ} {carry head
     pub block_fits : carry + sum block < 2 ^ 64
     block_fits = fits_in block block_small (omega (arith, block_length, g.room_high, (ready_block g.ready).2))
 
-    whole_block : Fills ring now_book block
+    pub whole_block : Fills ring now_book block
     whole_block =
         fills ring now_book block g.ready.usable.sound (omega (arith, block_length, g.room_low)) block_small
         (omega (arith, block_length, g.room_high, (ready_block g.ready).0))

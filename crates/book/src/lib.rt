@@ -64,7 +64,8 @@ impl From<Refusal> for RunRefusal {
     }
 }
 
-// Opens a book with a bound, a length and a tolerance, and clears the bytes that its ring takes.
+// Opens a book with a bound, a length and a tolerance, and clears the bytes that its ring takes. (Inlined, as `add` is.)
+#[inline(always)]
 pub fn open(bound: u64, length: u64, tolerance: u64, ring: &mut [u8]) -> Result<Book, Refusal>
     ensures { (as_updated no_book_at_all result ≡ result_of (open_call bound length tolerance ring.old)) × (ring.new ≡ left_of (open_call bound length tolerance ring.old)) }
 {
@@ -81,7 +82,8 @@ pub fn open(bound: u64, length: u64, tolerance: u64, ring: &mut [u8]) -> Result<
     })
 }
 
-// Adds one item to a book.
+// Adds one item to a book. (Inlined, since the result of a call of its own is copied through memory once more: an add took a fifth more instructions.)
+#[inline(always)]
 pub fn add(book: Book, ring: &mut [u8], item: u64) -> Result<Book, Refusal>
     ensures { (as_updated book result ≡ result_of (add_call book ring.old item)) × (ring.new ≡ left_of (add_call book ring.old item)) }
 {

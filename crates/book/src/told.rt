@@ -15,6 +15,7 @@ pub struct Updated {
 
 impl Updated {
     // `before`: the record that comes back where the call is refused.
+    #[inline(always)]
     pub fn of(before: Book, answer: Result<Book, Refusal>) -> Updated
         ensures { result ≡ as_updated before answer }
     {

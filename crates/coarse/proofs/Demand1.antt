@@ -3,13 +3,18 @@
 -- Assumes nothing.
 use Prim.Native.Nat.{ℕ}
 use mathlib.Core.List.{List, []}
-use mathlib.Core.Path.{refl, ap}
+use mathlib.Core.Path.{◌≡◌, refl, ap}
+use Rattle.std.specs.Prelude.{Result}
 use contract.Lifetimes.{Lfts}
 use lib.ListN.{length}
-use Rattle.refusals.specs.Demand1.{Tells, Promised}
+use Rattle.refusals.specs.declared.Refusal.{Refusal}
+use Rattle.refusals.specs.Demand1.{Tells, Promised, Settles}
 use Rattle.refusals.proofs.Calls.{promised, tells, result_number}
+use Rattle.refusals.proofs.OneOutcome.{seen_apart, one_outcome}
 use Rattle.book.specs.declared.Book.{Book}
+use Rattle.sums.specs.Calls.{RingAndRow}
 use Rattle.sums.proofs.Promises.{with_row_tells}
+use Rattle.coarse.specs.declared.Coarsened.{Coarsened}
 use Rattle.coarse.specs.declared.told.Coarser.{Coarser}
 use Rattle.coarse.specs.Told.{as_coarser}
 use Rattle.coarse.specs.Calls.{coarser_entries, coarse_faults, coarsen_call, coarsen_row_call}
@@ -41,3 +46,17 @@ pub coarsen_row_promised : (κs : Lfts 3) → Promised (coarsen-row-reads.Post �
     (λ a. coarsen_row_call a.0 a.1.0.now a.1.1.0 a.1.1.1.0.now a.1.1.1.1.0.now) (λ (r : Coarser). r.refusal)
 coarsen_row_promised κs =
     promised _ _ _ _ (λ a r e p. (p.0, λ i. record { ring = p.1 i; row = p.2 i })) _ (λ a. coarsen_row_tells _ _ _ _ _)
+
+-- what is made in numbers is the one result that looks so
+coarser_apart : (before : Book) (r r' : Result Coarsened Refusal) → as_coarser before r ≡ as_coarser before r' → r ≡ r'
+coarser_apart before =
+    seen_apart _ (λ number. record { refusal = number; bytes = 0; book = before }) (λ (c : Coarser). c.refusal) (λ made. refl) (λ number. refl)
+    (λ x y e i. record { bytes = (e i).bytes; book = (e i).book })
+
+-- UNIQUENESS of the results themselves, and not of the numbers that they tell alone
+pub coarsen_settled : (κs : Lfts 2) → Settles (coarsen-reads.Post κs) (λ a r. r) (λ a e. e.1.1.1.0.now)
+coarsen_settled κs = one_outcome _ _ _ (coarsen_promised κs).settled (λ a r r' e e' p p'. coarser_apart a.0 r r')
+
+pub coarsen_row_settled : (κs : Lfts 3)
+    → Settles {Lent = RingAndRow} (coarsen-row-reads.Post κs) (λ a r. r) (λ a e. record { ring = e.1.1.1.0.now; row = e.1.1.1.1.0.now })
+coarsen_row_settled κs = one_outcome _ _ _ (coarsen_row_promised κs).settled (λ a r r' e e' p p'. coarser_apart a.0 r r')

@@ -38,4 +38,4 @@ pub use Rattle.coarse.proofs.CoarserNumbers.{new_slots, new_width, new_bytes}
 pub use Rattle.coarse.proofs.CoarserSizes.{entries_top, bytes_top}
 pub use Rattle.coarse.proofs.RowAfterwards.{coarsen_leaves_rest, coarsen_unfinished_0}
 -- demand 1 and uniqueness of both calls
-pub use Rattle.coarse.proofs.Demand1.{coarsen_promised, coarsen_row_promised, coarsen_tells, coarsen_row_tells}
+pub use Rattle.coarse.proofs.Demand1.{coarsen_promised, coarsen_row_promised, coarsen_settled, coarsen_row_settled, coarsen_tells, coarsen_row_tells}

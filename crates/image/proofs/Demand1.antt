@@ -9,11 +9,15 @@ use mathlib.Core.Path.{◌≡◌, refl, sym, ap, ◌∙◌}
 use native.Mathlib.Omega.{arith}
 use contract.Lifetimes.{Lfts}
 use denote.Ref.{Bor}
+use Rattle.std.specs.Prelude.{Result}
+use Rattle.refusals.specs.declared.Refusal.{Refusal}
 use Rattle.refusals.specs.First.{Fault}
 use Rattle.refusals.specs.Call.{result_of, left_of}
 use Rattle.refusals.specs.Demand1.{NoneHolds, FirstThatHolds, Tells, Settles, Promised}
 use Rattle.refusals.proofs.Calls.{asks_leaves, promised, settled, result_cases, passed_on_numbered, passed_on_none, passed_on_alone}
 use Rattle.refusals.proofs.Calls.{written_out, first_holds, nothing_holds}
+use Rattle.refusals.proofs.OneOutcome.{seen_apart, one_outcome}
+use Rattle.image.specs.declared.Layout.{Layout}
 use Rattle.image.specs.declared.told.Numbers.{Numbers}
 use Rattle.image.specs.Kinds.{Kind, pgm, pbm}
 use Rattle.image.specs.Refused.{as_numbers}
@@ -95,6 +99,12 @@ pub mask_tells : (s : List ℕ) → Tells (λ (n : Numbers). n.refusal) (mask_ca
 unfolding mask_call
 mask_tells s = numbers_tells (mask_numbers_of s) s
 
+-- the numbers of an image are those of the one result that looks so
+numbers_apart : (r r' : Result Layout Refusal) → as_numbers r ≡ as_numbers r' → r ≡ r'
+numbers_apart =
+    seen_apart _ refused_with (λ (n : Numbers). n.refusal) (λ layout. refl) (λ number. refl)
+    (λ x y e i. record { width = (e i).width; height = (e i).height; maxval = (e i).maxval; start = (e i).start; used = (e i).used })
+
 module _ (κs : Lfts 1) where
   -- both promises of `header`
   pub header_promised : Promised (header_reads.Post κs) (λ a r. as_numbers r) (λ a e. a.0.now) (λ a. header_call a.0.now) (λ (n : Numbers). n.refusal)
@@ -105,6 +115,13 @@ module _ (κs : Lfts 1) where
   pub mask_header_promised : Promised (mask_header_reads.Post κs) (λ a r. as_numbers r) (λ a e. a.0.now) (λ a. mask_call a.0.now) (λ (n : Numbers). n.refusal)
   mask_header_promised =
       promised _ _ _ _ (λ a r e p. (p ∙ sym (mask_result a.0.now), mask_leaves a.0.now)) _ (λ a. mask_tells a.0.now)
+
+  -- and uniqueness of their results themselves, and not of the numbers that they tell alone
+  pub header_settled : Settles (header_reads.Post κs) (λ a r. r) (λ a e. a.0.now)
+  header_settled = one_outcome _ _ _ header_promised.settled (λ a r r' e e' p p'. numbers_apart r r')
+
+  pub mask_header_settled : Settles (mask_header_reads.Post κs) (λ a r. r) (λ a e. a.0.now)
+  mask_header_settled = one_outcome _ _ _ mask_header_promised.settled (λ a r r' e e' p p'. numbers_apart r r')
 
   -- uniqueness of `raster`
   pub raster_settled : Settles {Shown = Part} (raster_reads.Post κs) (λ a r. part_of r) (λ a e. a.0.now)

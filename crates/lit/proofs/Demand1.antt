@@ -3,11 +3,14 @@
 -- Assumes nothing.
 use Prim.Native.Nat.{ℕ}
 use mathlib.Core.List.{List}
-use mathlib.Core.Path.{◌≡◌, refl, sym, ◌∙◌}
+use mathlib.Core.Path.{◌≡◌, refl, sym, ap, ◌∙◌}
+use Rattle.std.specs.Prelude.{Result}
 use contract.Lifetimes.{Lfts}
 use Rattle.refusals.specs.Call.{left_of}
+use Rattle.refusals.specs.declared.Refusal.{Refusal}
 use Rattle.refusals.specs.Demand1.{Settles, Tells, Promised}
 use Rattle.refusals.proofs.Calls.{asks_leaves, promised, tells}
+use Rattle.refusals.proofs.OneOutcome.{seen_apart, one_outcome}
 use Rattle.lit.specs.declared.Answer.{Answer}
 use Rattle.lit.specs.Told.{as_answer}
 use Rattle.lit.specs.Calls.{rank_call, select_call, coarse_rank_call, coarse_select_call}
@@ -71,3 +74,23 @@ select_coarse_promised κs = promised _ _ _ _ (λ a r e p. (p, select_coarse_lea
 -- the look into a byte refuses nothing: one place is settled for each byte and k
 pub in_byte_settled : (κs : Lfts 0) → Settles (in_byte_reads.Post κs) (λ a r. r) (λ a e. tt {0})
 in_byte_settled κs a r r' e e' p p' = (p ∙ sym p', refl)
+
+-- an answer in numbers is the one result that looks so
+answer_apart : (r r' : Result ℕ Refusal) → as_answer r ≡ as_answer r' → r ≡ r'
+answer_apart =
+    seen_apart _ (λ number. record { refusal = number; value = 0 }) (λ answer. answer.refusal) (λ value. refl) (λ number. refl)
+    (λ x y e. ap (λ (answer : Answer). answer.value) e)
+
+-- UNIQUENESS of the results themselves, and not of the numbers that they tell alone
+module _ (κs : Lfts 1) where
+  pub rank_settled : Settles (rank_reads.Post κs) (λ a r. r) (λ a e. a.0.now)
+  rank_settled = one_outcome _ _ _ (rank_promised κs).settled (λ a r r' e e' p p'. answer_apart r r')
+
+  pub select_settled : Settles (select_reads.Post κs) (λ a r. r) (λ a e. a.0.now)
+  select_settled = one_outcome _ _ _ (select_promised κs).settled (λ a r r' e e' p p'. answer_apart r r')
+
+  pub rank_coarse_settled : Settles (rank_coarse_reads.Post κs) (λ a r. r) (λ a e. a.0.now)
+  rank_coarse_settled = one_outcome _ _ _ (rank_coarse_promised κs).settled (λ a r r' e e' p p'. answer_apart r r')
+
+  pub select_coarse_settled : Settles (select_coarse_reads.Post κs) (λ a r. r) (λ a e. a.0.now)
+  select_coarse_settled = one_outcome _ _ _ (select_coarse_promised κs).settled (λ a r r' e e' p p'. answer_apart r r')

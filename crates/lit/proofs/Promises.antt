@@ -16,6 +16,7 @@ pub use Rattle.lit.proofs.CoarseCalls.{coarse_rank_by_1, coarse_select_by_1}
 pub use Rattle.lit.proofs.OnlyFramesCount.{rank_by_frames, select_by_frames, coarse_rank_by_frames, coarse_select_by_frames}
 -- demand 1 and uniqueness of the calls
 pub use Rattle.lit.proofs.Demand1.{rank_promised, select_promised, rank_coarse_promised, select_coarse_promised, in_byte_settled}
+pub use Rattle.lit.proofs.Demand1.{rank_settled, select_settled, rank_coarse_settled, select_coarse_settled}
 -- RANK AND SELECT over any row of bits: rank goes part by part, grows, and is no more than the place
 pub use Rattle.lit.proofs.Ranks.{rank_join, rank_grows, rank_le}
 -- each undoes the other on ones

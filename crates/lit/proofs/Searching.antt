@@ -1,6 +1,6 @@
 -- The search for the k-th one: what is known after each group of bytes, where it stops, and the place that it then finds.
 -- Assumes nothing.
-use Prim.Native.Nat.{ℕ, zero, suc, ◌+◌, ◌-◌, ◌*◌, ◌/◌, ◌<◌, ◌≤◌}
+use Prim.Native.Nat.{ℕ, zero, suc, ◌+◌, ◌-◌, ◌*◌, ◌/◌, ◌%◌, ◌^◌, ◌<◌, ◌≤◌}
 use native.Mathlib.Omega.{arith}
 use Rattle.std.proofs.lemmas.Bool.{cases_lt}
 use Rattle.std.proofs.Common.{Some, None}
@@ -14,7 +14,8 @@ use lib.Seq.{take_at, take-take, drop_at, drop-drop}
 use Rattle.std.specs.Bool.{then_some}
 use Rattle.bits.specs.Row.{bits}
 use Rattle.bits.specs.Ones.{ones_of}
-use Rattle.bits.proofs.Promises.{length_bits, bits_of_byte, bits_take, bits_drop, ones_none}
+use Rattle.bits.proofs.Promises.{length_bits, bits_of_byte, bits_take, bits_drop, ones_none, bytes_fit}
+use Rattle.lit.specs.Limits.{most_frames}
 use Rattle.lit.specs.Frames.{frames}
 use Rattle.lit.specs.RankSelect.{rank_of, select_of}
 use Rattle.lit.specs.InByte.{place_in_byte}
@@ -37,11 +38,15 @@ module _ (row : List ℕ) (k at before : ℕ) (p : Passed row k at before) where
   pub passed_le : before ≤ length row * 8
   passed_le = omega (arith, p.within, p.ones, rank_le (at * 8) (bits row))
 
-  module _ (size : ℕ) (group after : List ℕ) (more : ℕ) (parts : drop at row ≡ group ++ after) (long : length group ≡ size)
-      (counted : more ≡ ones_of (bits group)) where
+  module _ (few : length row * 8 ≤ most_frames) (size : ℕ) (group after : List ℕ) (more : ℕ) (parts : drop at row ≡ group ++ after)
+      (long : length group ≡ size) (told : more ≡ ones_of (bits group) % 2 ^ 64) where
     -- the group lies in the row
     group_within : at + size ≤ length row
     group_within = omega (arith, p.within, long, length-append group after, length-drop at row, ap (λ (l : List ℕ). length l) parts)
+
+    -- so that its ones are few enough to be told
+    counted : more ≡ ones_of (bits group)
+    counted = told ∙ bytes_fit group (omega (arith, group_within, long, few))
 
     -- the ones up to behind the next group
     after_group : before + more ≡ rank_of ((at + size) * 8) (bits row)
@@ -106,7 +111,7 @@ module _ {row : List ℕ} {k at before : ℕ} (s : Stopped row k 1 at before) (c
 
     -- … where it has the place that the table gives
     module _ (byte inside : ℕ) (own : byte ≡ get_or row at 0) (table : inside ≡ place_in_byte byte (k - before)) where
-      found_at : at * 8 + inside ≡ select_of k (bits row)
+      pub found_at : at * 8 + inside ≡ select_of k (bits row)
       found_at =
           ap (λ (n : ℕ). at * 8 + n) (table ∙ ap (λ (x : ℕ). place_in_byte x (k - before)) own)
           ∙ sym

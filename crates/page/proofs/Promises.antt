@@ -13,4 +13,4 @@ pub use Rattle.page.proofs.Shows.{raster_at_choice, shown_lies}
 pub use Rattle.page.proofs.TrueTimes.{age_true, age_by_turns}
 pub use Rattle.page.proofs.Shows.{shown_age}
 -- demand 1 and uniqueness of show, and uniqueness of raster; show leaves what was lent, and tells its number
-pub use Rattle.page.proofs.Demand1.{show_promised, raster_settled, show_leaves, show_tells}
+pub use Rattle.page.proofs.Demand1.{show_promised, show_settled, raster_settled, show_leaves, show_tells}

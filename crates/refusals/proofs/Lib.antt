@@ -1,3 +1,4 @@
 pub mod Laws
 pub mod Calls
 pub mod Numbers
+pub mod OneOutcome

@@ -3,12 +3,15 @@
 -- Assumes nothing.
 use Prim.Native.Nat.{ℕ}
 use mathlib.Core.List.{List}
-use mathlib.Core.Path.{◌≡◌, refl}
+use mathlib.Core.Path.{◌≡◌, refl, ap}
+use Rattle.std.specs.Prelude.{Result}
 use contract.Lifetimes.{Lfts}
 use Rattle.refusals.specs.Call.{left_of}
 use Rattle.refusals.specs.Refused.{number_in}
-use Rattle.refusals.specs.Demand1.{Tells, Promised}
+use Rattle.refusals.specs.declared.Refusal.{Refusal}
+use Rattle.refusals.specs.Demand1.{Tells, Promised, Settles}
 use Rattle.refusals.proofs.Calls.{asks_leaves, promised, tells}
+use Rattle.refusals.proofs.OneOutcome.{number_apart, seen_apart, one_outcome}
 use Rattle.ring.specs.declared.Answer.{Answer}
 use Rattle.ring.specs.Told.{as_answer}
 use Rattle.ring.specs.Calls.{clear_call, read_call, write_call, sum_call}
@@ -59,3 +62,22 @@ module _ (κs : Lfts 1) where
   pub sum_promised : Promised (sum-reads.Post κs) (λ a r. as_answer r) (λ a e. a.1.1.0.now)
       (λ a. sum_call a.0 a.1.0 a.1.1.0.now a.1.1.1.0 a.1.1.1.1.0) (λ (r : Answer). r.refusal)
   sum_promised = promised _ _ _ _ (λ a r e p. (p, sum_leaves _ _ _ _ _)) _ (λ a. sum_tells _ _ _ _ _)
+
+-- an answer in numbers is the one result that looks so
+answer_apart : (r r' : Result ℕ Refusal) → as_answer r ≡ as_answer r' → r ≡ r'
+answer_apart =
+    seen_apart _ (λ number. record { refusal = number; value = 0 }) (λ answer. answer.refusal) (λ value. refl) (λ number. refl) (λ x y e. ap (λ (answer : Answer). answer.value) e)
+
+-- UNIQUENESS of the results themselves, and not of the numbers that they tell alone
+module _ (κs : Lfts 1) where
+  pub clear_settled : Settles (clear_reads.Post κs) (λ a r. r) (λ a e. e.1.1.0.now)
+  clear_settled = one_outcome _ _ _ (clear_promised κs).settled (λ a r r' e e' p p'. number_apart r r')
+
+  pub read_settled : Settles (read_reads.Post κs) (λ a r. r) (λ a e. a.1.1.0.now)
+  read_settled = one_outcome _ _ _ (read_promised κs).settled (λ a r r' e e' p p'. answer_apart r r')
+
+  pub write_settled : Settles (write-reads.Post κs) (λ a r. r) (λ a e. e.1.1.0.now)
+  write_settled = one_outcome _ _ _ (write_promised κs).settled (λ a r r' e e' p p'. number_apart r r')
+
+  pub sum_settled : Settles (sum-reads.Post κs) (λ a r. r) (λ a e. a.1.1.0.now)
+  sum_settled = one_outcome _ _ _ (sum_promised κs).settled (λ a r r' e e' p p'. answer_apart r r')

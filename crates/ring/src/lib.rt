@@ -40,6 +40,7 @@ impl From<Result<u64, Refusal>> for Answer {
 
 // Sets the first bytes of the ring, as many as it takes, to 0.
 #[tactic(auto, using(crate::proofs::Refused::refusing), unfolding(crate::specs::Calls::clear_call, refusals::specs::Call::result_of, refusals::specs::Call::left_of))]
+#[inline(always)]
 pub fn clear(width: usize, slots: usize, ring: &mut [u8]) -> Result<(), Refusal>
     ensures { (number_in result ≡ result_of (clear_call width slots ring.old)) × (ring.new ≡ left_of (clear_call width slots ring.old)) }
 {

@@ -56,7 +56,7 @@ appended_then {old} {mid} {new} first second a b =
 
 -- a line: what the length of the buffer makes of it
 module _ (out text : List ℕ) where
-  line_short : length out < line_most → buffer_too_short ≡ refusal_of (line_call out text)
+  pub line_short : length out < line_most → buffer_too_short ≡ refusal_of (line_call out text)
   unfolding line_call
   line_short h = rw (lt-ltb (length out) line_most h)
 

@@ -22,4 +22,4 @@ pub use Rattle.salvage.proofs.RowFromFields.{entry_is, rebuilt_rest, rebuilt_kep
 -- A SECOND RUN alters nothing
 pub use Rattle.salvage.proofs.SecondRun.{second_run, second_run_row}
 -- demand 1 and uniqueness of both calls
-pub use Rattle.salvage.proofs.Demand1.{salvage_promised, salvage_row_promised, salvage_tells, salvage_row_tells}
+pub use Rattle.salvage.proofs.Demand1.{salvage_promised, salvage_row_promised, salvage_settled, salvage_row_settled, salvage_tells, salvage_row_tells}

@@ -3,11 +3,14 @@
 -- Assumes nothing.
 use Prim.Native.Nat.{ℕ}
 use mathlib.Core.List.{List}
-use mathlib.Core.Path.{◌≡◌, refl}
+use mathlib.Core.Path.{◌≡◌, refl, ap}
+use Rattle.std.specs.Prelude.{Result}
 use contract.Lifetimes.{Lfts}
 use Rattle.refusals.specs.Call.{left_of}
-use Rattle.refusals.specs.Demand1.{Tells, Promised}
+use Rattle.refusals.specs.declared.Refusal.{Refusal}
+use Rattle.refusals.specs.Demand1.{Tells, Promised, Settles}
 use Rattle.refusals.proofs.Calls.{asks_leaves, promised}
+use Rattle.refusals.proofs.OneOutcome.{seen_apart, one_outcome}
 use Rattle.image.specs.Reading.{numbers_of}
 use Rattle.image.specs.Mask.{mask_numbers_of}
 use Rattle.score.specs.Told.{as_answer}
@@ -52,3 +55,17 @@ pub masked_promised : (κs : Lfts 3)
     → Promised {Lent = List ℕ × List ℕ × List ℕ} (masked_reads.Post κs) (λ a r. as_answer r) (λ a e. (a.1.1.0.now, a.1.1.1.0.now, a.1.1.1.1.0.now))
     (λ a. masked_call a.0 a.1.0 a.1.1.0.now a.1.1.1.0.now a.1.1.1.1.0.now) (λ (answer : Answer). answer.refusal)
 masked_promised κs = promised _ _ _ _ (λ a r e p. (p, masked_leaves _ _ _ _ _)) _ (λ a. masked_tells _ _ _ _ _)
+
+-- an answer in numbers is the one result that looks so
+answer_apart : (r r' : Result ℕ Refusal) → as_answer r ≡ as_answer r' → r ≡ r'
+answer_apart =
+    seen_apart _ (λ number. record { refusal = number; value = 0 }) (λ answer. answer.refusal) (λ value. refl) (λ number. refl)
+    (λ x y e. ap (λ (answer : Answer). answer.value) e)
+
+-- UNIQUENESS of the results themselves, and not of the numbers that they tell alone
+pub score_settled : (κs : Lfts 2) → Settles {Lent = List ℕ × List ℕ} (score_reads.Post κs) (λ a r. r) (λ a e. (a.1.1.0.now, a.1.1.1.0.now))
+score_settled κs = one_outcome _ _ _ (score_promised κs).settled (λ a r r' e e' p p'. answer_apart r r')
+
+pub masked_settled : (κs : Lfts 3)
+    → Settles {Lent = List ℕ × List ℕ × List ℕ} (masked_reads.Post κs) (λ a r. r) (λ a e. (a.1.1.0.now, a.1.1.1.0.now, a.1.1.1.1.0.now))
+masked_settled κs = one_outcome _ _ _ (masked_promised κs).settled (λ a r r' e e' p p'. answer_apart r r')

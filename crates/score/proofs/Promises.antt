@@ -18,7 +18,7 @@ pub use Rattle.score.proofs.Refused.{none_alike}
 pub use Rattle.score.proofs.Scored.{refusal_is}
 pub use Rattle.score.proofs.BlackBits.{black_in_byte, black_in_row}
 pub use Rattle.score.proofs.MaskLaws.{white_is_plain, black_is_0, blacker_no_higher, padding_free, masked_le_bound}
-pub use Rattle.score.proofs.Demand1.{score_promised, masked_promised}
+pub use Rattle.score.proofs.Demand1.{score_promised, masked_promised, score_settled, masked_settled}
 
 module _ (bound allowance : ℕ) (first second : List ℕ) where
   -- at most L: what the book asks of an item

@@ -23,4 +23,5 @@ pub mod UnfinishedGroups
 pub mod RunIsAdding
 pub mod ComesBack
 pub mod Demand1
+pub mod OneOutcome
 pub mod Promises

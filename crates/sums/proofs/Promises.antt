@@ -11,7 +11,8 @@ pub use Rattle.sums.proofs.RowFirst.{item_18, run_18, total_18}
 pub use Rattle.sums.proofs.TotalWithRow.{total_row_gives, total_row_number, total_row_refused}
 -- a refused item or run hands the record back as it came, and a total leaves ring and row
 pub use Rattle.sums.proofs.ComesBack.{add_row_back, run_row_back, total_row_asks}
--- demand 1 and uniqueness of each
+-- demand 1 and uniqueness of each, and of the results themselves
+pub use Rattle.sums.proofs.OneOutcome.{open_row_settled, add_row_settled, run_row_settled, total_row_settled}
 pub use Rattle.sums.proofs.Demand1.{open_row_promised, add_row_promised, run_row_promised, total_row_promised, open_row_tells, add_row_tells, run_row_tells, total_row_tells, total_row_leaves}
 -- THE ROW. Which slots end a group, for all slots and of 65. Where an item closes a block the row is as storing leaves it, and otherwise it stays;
 -- storing puts the sum into the entry of the group that ends, if one does, and leaves every other entry. An opening's
@@ -37,9 +38,11 @@ pub use Rattle.sums.proofs.RowStays.{cleared_rest, all_rest, by_refusal_lem}
 pub use Rattle.sums.proofs.KeptRow.{stored_0, stored_entry}
 pub use Rattle.sums.proofs.Ends.{group_end_lem}
 -- SUMS OF FIELDS: of none, of a run between two sums from slot 0, and that they see nothing but their own fields; those of a ring stay small,
--- and are what the ring's own call sums
+-- and are what the ring's own call sums, and so what `row::fields` tells of some slots of a judged book's ring
 pub use Rattle.sums.proofs.SumsOfFields.{from_none, between, to_same}
-pub use Rattle.sums.proofs.FieldsInRange.{sum_small, ring_sums, ring_answers}
+pub use Rattle.sums.proofs.FieldsInRange.{sum_small, ring_sums, ring_answers, fields_sum}
+-- THE OLDEST of the newest slots, where the ring has so many
+pub use Rattle.sums.proofs.SumsOfFields.{oldest_newest}
 -- FOR CALLS ABOVE with a row beside a call of their own: what it then is, and what it tells
 pub use Rattle.sums.proofs.BesideTheBook.{beside_the_book, with_row_tells}
 -- the numbers that were derived of a book's L, n and D are its own

@@ -3,12 +3,16 @@
 use Prim.Native.Nat.{ℕ, zero, suc, ◌+◌, ◌-◌, ◌*◌, ◌≤◌, ◌<◌}
 use native.Mathlib.Nat.{suc-mul}
 use native.Mathlib.Omega.{arith}
+use mathlib.Core.Bool.{cond}
 use mathlib.Core.Logic.{◌⊎◌, inl, inr}
 use mathlib.Core.Path.{◌≡◌, refl, sym, ap, ◌∙◌}
+use borrow.Author.Tests.{le-leb, lt-leb}
+use lib.Dec.{leb}
 use Rattle.ring.specs.Newest.{newest, sum_newest}
 use Rattle.ring.proofs.Promises.{newest_near, newest_far, sum_none, sum_more}
 use Rattle.book.proofs.Promises.{le_or_lt}
 use Rattle.sums.specs.Row.{sum_from, sum_to}
+use Rattle.sums.specs.Rule.{oldest_slot}
 
 -- none is 0, and one more adds its field
 pub from_none : (held : ℕ → ℕ) (from : ℕ) → sum_from held from 0 ≡ 0
@@ -81,6 +85,15 @@ last_is_run held a b lt =
     let e : b - (b - a) ≡ a = omega arith in
     let l : sum_newest held b 0 (b - a) + sum_to held a ≡ sum_to held b = rw e at (last_of held b (b - a) (omega arith) (omega arith)) in
     omega (arith, between held a b (omega arith))
+
+-- THE OLDEST of the j newest slots before head, where the ring has so many: the j-th one back
+pub oldest_newest : (slots head j : ℕ) → j ≤ slots → oldest_slot slots head j ≡ newest slots head j
+unfolding oldest_slot
+oldest_newest slots head j within = by (le_or_lt j head)
+  where
+    by : (j ≤ head) ⊎ (head < j) → cond (leb j head) (head - j) (slots - (j - head)) ≡ newest slots head j
+    by (inl near) = rw (le-leb j head near) (sym (newest_near slots head j near))
+    by (inr far) = rw (lt-leb j head far) (omega (arith, newest_far slots head j far within))
 
 -- THE j NEWEST SLOTS before head are two runs: up to head, and up to the last slot
 pub newest_by_runs : (held : ℕ → ℕ) (slots head j : ℕ) → head < slots → j ≤ slots

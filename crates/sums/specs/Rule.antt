@@ -59,6 +59,10 @@ module _ (slots head j : ℕ) where
   abbrev pub far_from : ℕ
   far_from = slots - (j - head)
 
+  -- the oldest of them is the slot with which its run begins
+  unfoldable pub oldest_slot : ℕ
+  oldest_slot = cond (leb j head) near_from far_from
+
   abbrev pub near : Parts
   near = parts_of slots near_from head
 

@@ -32,6 +32,7 @@ pub struct RowTotal {
 }
 
 // Opens a book, and clears the bytes that its ring takes and the entries of the row that it uses.
+#[inline(always)]
 pub fn open(
     bound: u64,
     length: u64,
@@ -50,6 +51,7 @@ pub fn open(
 }
 
 // Adds one item to a book. Where its block closes and a group of slots ends with it, the row takes the sum.
+#[inline(always)]
 pub fn add(book: Book, ring: &mut [u8], row: &mut [u32], item: u64) -> Result<Book, Refusal>
     ensures { (as_updated book result ≡ result_of (add_row_call book ring.old row.old item)) × (ring.new ≡ (left_of (add_row_call book ring.old row.old item)).ring) × (row.new ≡ (left_of (add_row_call book ring.old row.old item)).row) }
 {

@@ -1,7 +1,9 @@
 // The row of running sums: its entries, clearing it, and storing a sum where a group of slots ends. specs/Row.antt.
 ghost use Rattle.std.specs.Prelude.{◌≡◌, ◌++◌, ◌-◌, ◌*◌, ◌≤◌, ◌<◌, length, drop, replicate, set};
+ghost use Rattle.refusals.specs.Call.{result_of};
 ghost use Rattle.ring.specs.Slot.{field};
-ghost use Rattle.sums.specs.Row.{entries_for, group_end, entry_at, sum_from, sum_to, stored};
+ghost use Rattle.ring.specs.Calls.{sum_call};
+ghost use Rattle.sums.specs.Row.{entries_for, group_end, entry_at, sum_to, stored};
 ghost use Rattle.sums.specs.Rule.{stored_at};
 ghost use Rattle.sums.specs.RunParts.{Stands};
 
@@ -19,10 +21,9 @@ pub fn entries(slots: u64) -> usize
 // The end of the group in which a slot lies.
 #[tactic(auto, unfolding(crate::specs::Row::group_end))]
 pub fn group_end(slots: u64, slot: u64) -> u64
-    requires { slot ≤ 4096 }
     ensures { result ≡ group_end slots slot }
 {
-    slots.min((slot / GROUP + 1) * GROUP)
+    slots.min((slot / GROUP + 1).saturating_mul(GROUP))
 }
 
 // The entry of a group's end.
@@ -53,10 +54,10 @@ pub(crate) fn clear(row: &mut [u32], n: usize)
     row[..n].fill(0);
 }
 
-// The sum of the fields from slot `from` up to, not including, slot `to`: the ring's own sum, told of `to` slots and asked for the last of them.
+// The sum of the fields from slot `from` up to, not including, slot `to`: the ring's own sum, told of `to` slots and asked for the last of them; 0 where
+// it is refused.
 pub fn fields(known: Known, ring: &[u8], from: u64, to: u64) -> u64
-    requires { (known.shape.bytes ≤ length ring.now) × (from ≤ to) × (to ≤ known.shape.slots) }
-    ensures { result ≡ sum_from (field known.shape.width ring.now) from (to - from) }
+    ensures { result ≡ (result_of (sum_call known.shape.width to ring.now 0 (to - from))).value }
 {
     if to <= from {
         return 0;
@@ -68,7 +69,7 @@ pub fn fields(known: Known, ring: &[u8], from: u64, to: u64) -> u64
         0,
         (to - from) as usize,
     )
-    .unwrap()
+    .unwrap_or(0)
 }
 
 // Puts the sum of the ring's fields from slot 0 up to a group's end into the group's entry. Up to `from` the row has that sum already, so that

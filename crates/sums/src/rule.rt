@@ -36,7 +36,6 @@ pub(crate) struct Newest {
 
 #[tactic(auto, unfolding(crate::specs::Rule::end_after))]
 fn end_after(slots: u64, slot: u64) -> u64
-    requires { slot ≤ 4096 }
     ensures { result ≡ end_after slots slot }
 {
     if slot == 0 {
@@ -57,7 +56,6 @@ fn end_before(slots: u64, slot: u64) -> u64
 
 #[tactic(auto, unfolding(crate::specs::Rule::parts_of))]
 fn split(slots: u64, from: u64, to: u64) -> Parts
-    requires { (from ≤ to) × (to ≤ slots) × (slots ≤ 4096) }
     ensures { result ≡ parts_of slots from to }
 {
     let first = end_after(slots, from);

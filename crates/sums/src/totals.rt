@@ -1,9 +1,8 @@
 // The figure for the last i items of a book, by the row: specs/Rule.antt.
 ghost use Rattle.std.specs.Prelude.{◌≡◌, ◌*◌, ◌≤◌, ◌<◌, length};
-ghost use Rattle.ring.specs.Newest.{newest};
 ghost use Rattle.book.specs.Figure.{slots_for, reckoned};
 ghost use Rattle.sums.specs.Row.{entries_for};
-ghost use Rattle.sums.specs.Rule.{fields_for, sums_for, figure_by_row};
+ghost use Rattle.sums.specs.Rule.{oldest_slot, fields_for, sums_for, figure_by_row};
 
 use crate::{RowTotal, rule};
 use book::known::Known;
@@ -19,14 +18,14 @@ fn slots_for(known: Known, window: u64) -> u64
 }
 
 // The oldest of the j newest slots before head: where their run begins.
+#[tactic(auto, unfolding(crate::specs::Rule::oldest_slot))]
 pub fn oldest(slots: u64, head: u64, j: u64) -> u64
-    requires { (head < slots) × (j ≤ slots) }
-    ensures { result ≡ newest slots head j }
+    ensures { result ≡ oldest_slot slots head j }
 {
     if j <= head {
         head - j
     } else {
-        slots - (j - head)
+        slots.saturating_sub(j - head)
     }
 }
 

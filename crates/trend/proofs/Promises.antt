@@ -10,7 +10,7 @@ pub use Rattle.trend.proofs.Trends.{trend_hands_back, trend_asks}
 -- a window of 0 gives 0, and it does not look at the mark
 pub use Rattle.trend.proofs.Trends.{trend_of_none, trend_unmarked}
 -- demand 1 and uniqueness of the call
-pub use Rattle.trend.proofs.Demand1.{trend_promised, trend_tells, trend_leaves}
+pub use Rattle.trend.proofs.Demand1.{trend_promised, trend_settled, trend_tells, trend_leaves}
 -- DIFFERENCES of natural numbers, which compare as the sums across do: below another one, and the same
 pub use Rattle.trend.proofs.Differences.{difference_lt, difference_same}
 -- said of them in natural numbers: no more above another one than by e; above k; below −k

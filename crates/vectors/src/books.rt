@@ -1,5 +1,6 @@
 // The book's calls.
-use crate::reading::{Unanswered, bytes, number};
+use crate::reading::{Unanswered, number};
+use crate::room::{Room, Text};
 use crate::text::{Answer, Hex, Record};
 use crate::{reading, text};
 use book::Book;
@@ -7,50 +8,56 @@ use book::shape::Shaped;
 use book::told::{Ran, Updated};
 use book::verdicts::Verdict;
 use refusals::Refusal;
-use std::alloc::Global;
+use std::fmt::Write;
 
 // The refusal, then c, s, z, b and B.
-pub(crate) fn shape(alloc: Global, bound: &str, length: &str, tolerance: &str) -> Answer {
+pub(crate) fn shape(room: &mut Room, bound: &str, length: &str, tolerance: &str) -> Answer {
     let answer = book::shape::derive(number(bound)?, number(length)?, number(tolerance)?);
     let told = Shaped::from(answer);
     let shape = told.shape;
-    Ok(format!(in alloc;
+    Ok(write!(
+        room.out,
         "{} {} {} {} {} {}",
         told.refusal, shape.block, shape.slots, shape.largest, shape.width, shape.bytes
     )?)
 }
 
 // The refusal, the record and the ring.
-pub(crate) fn updated(alloc: Global, told: Updated, ring: &[u8]) -> Answer {
-    Ok(format!(in alloc; "{} {} {}", told.refusal, Record(told.book), Hex(ring))?)
+pub(crate) fn updated(out: &mut Text, told: Updated, ring: &[u8]) -> Answer {
+    Ok(write!(out, "{} {} {}", told.refusal, Record(told.book), Hex(ring))?)
 }
 
 pub(crate) fn open(
-    alloc: Global,
+    room: &mut Room,
     bound: &str,
     length: &str,
     tolerance: &str,
     ring: &str,
 ) -> Answer {
-    let mut ring = bytes(alloc, ring)?;
+    reading::bytes(ring, &mut room.first)?;
     let answer = book::open(
         number(bound)?,
         number(length)?,
         number(tolerance)?,
-        &mut ring,
+        &mut room.first,
     );
-    updated(alloc, Updated::of(Book::default(), answer), &ring)
+    updated(
+        &mut room.out,
+        Updated::of(Book::default(), answer),
+        &room.first,
+    )
 }
 
-pub(crate) fn add(alloc: Global, record: &str, ring: &str, item: &str) -> Answer {
-    let (book, mut ring) = reading::book(alloc, record, ring)?;
-    let answer = book::add(book, &mut ring, number(item)?);
-    updated(alloc, Updated::of(book, answer), &ring)
+pub(crate) fn add(room: &mut Room, record: &str, ring: &str, item: &str) -> Answer {
+    let book = reading::book(record, ring, &mut room.first)?;
+    let answer = book::add(book, &mut room.first, number(item)?);
+    updated(&mut room.out, Updated::of(book, answer), &room.first)
 }
 
 // The refusal, the place, the record and the ring.
-pub(crate) fn ran(alloc: Global, told: Ran, ring: &[u8]) -> Answer {
-    Ok(format!(in alloc;
+pub(crate) fn ran(out: &mut Text, told: Ran, ring: &[u8]) -> Answer {
+    Ok(write!(
+        out,
         "{} {} {} {}",
         told.refusal,
         told.place,
@@ -59,61 +66,63 @@ pub(crate) fn ran(alloc: Global, told: Ran, ring: &[u8]) -> Answer {
     )?)
 }
 
-pub(crate) fn run(alloc: Global, record: &str, ring: &str, counts: &str) -> Answer {
-    let (book, mut ring) = reading::book(alloc, record, ring)?;
-    let counts = reading::row(alloc, counts)?;
-    let answer = book::run(book, &mut ring, &counts);
-    ran(alloc, Ran::of(book, answer), &ring)
+pub(crate) fn run(room: &mut Room, record: &str, ring: &str, counts: &str) -> Answer {
+    let book = reading::book(record, ring, &mut room.first)?;
+    reading::row(counts, &mut room.counts)?;
+    let answer = book::run(book, &mut room.first, &room.counts);
+    ran(&mut room.out, Ran::of(book, answer), &room.first)
 }
 
 // The refusal and the record, which `set` puts to rest or wakes.
 pub(crate) fn mark<F: FnOnce(Book) -> Result<Book, Refusal>>(
-    alloc: Global,
+    room: &mut Room,
     record: &str,
     set: F,
 ) -> Answer
     requires { F.IsAlwaysCallable set }
 {
-    let book = reading::record(alloc, record)?;
+    let book = reading::record(record)?;
     let told = Updated::of(book, set(book));
-    Ok(format!(in alloc; "{} {}", told.refusal, Record(told.book))?)
+    Ok(write!(room.out, "{} {}", told.refusal, Record(told.book))?)
 }
 
-pub(crate) fn total(alloc: Global, record: &str, ring: &str, window: &str) -> Answer {
-    let (book, ring) = reading::book(alloc, record, ring)?;
-    text::refusal_and_number(alloc, book::total(book, &ring, number(window)?))
+pub(crate) fn total(room: &mut Room, record: &str, ring: &str, window: &str) -> Answer {
+    let book = reading::book(record, ring, &mut room.first)?;
+    let answer = book::total(book, &room.first, number(window)?);
+    text::refusal_and_number(&mut room.out, answer)
 }
 
-pub(crate) fn how_far_back(alloc: Global, record: &str, ring: &str, amount: &str) -> Answer {
-    let (book, ring) = reading::book(alloc, record, ring)?;
-    text::refusal_and_number(alloc, book::how_far_back(book, &ring, number(amount)?))
+pub(crate) fn how_far_back(room: &mut Room, record: &str, ring: &str, amount: &str) -> Answer {
+    let book = reading::book(record, ring, &mut room.first)?;
+    let answer = book::how_far_back(book, &room.first, number(amount)?);
+    text::refusal_and_number(&mut room.out, answer)
 }
 
 // The refusal, the word of the verdict, and the figure. They have no window, so a verdict is told only if its notice is of the window that was
 // asked for.
 pub(crate) fn verdict(
-    alloc: Global,
+    room: &mut Room,
     record: &str,
     ring: &str,
     window: &str,
     amount: &str,
 ) -> Answer {
-    let (book, ring) = reading::book(alloc, record, ring)?;
+    let book = reading::book(record, ring, &mut room.first)?;
     let window = number(window)?;
-    match book::verdict(book, &ring, window, number(amount)?) {
-        Ok(notice) if notice.window == window => word_and_figure(alloc, notice.verdict),
-        Ok(_) => Err(Unanswered::Unreadable),
-        Err(refusal) => Ok(format!(in alloc; "{} none 0", refusal.number())?),
+    match book::verdict(book, &room.first, window, number(amount)?) {
+        Ok(notice) if notice.window == window => word_and_figure(&mut room.out, notice.verdict),
+        Ok(_) => Err(Unanswered),
+        Err(refusal) => Ok(write!(room.out, "{} none 0", refusal.number())?),
     }
 }
 
 // (Not an impl of `Display`: `Verdict` is of another crate.)
-fn word_and_figure(alloc: Global, verdict: Verdict) -> Answer {
+fn word_and_figure(out: &mut Text, verdict: Verdict) -> Answer {
     let (word, figure) = match verdict {
         Verdict::Live(figure) => ("live", figure),
         Verdict::Frozen(figure) => ("frozen", figure),
         Verdict::Undecided(figure) => ("undecided", figure),
         Verdict::Resting(figure) => ("resting", figure),
     };
-    Ok(format!(in alloc; "0 {word} {figure}")?)
+    Ok(write!(out, "0 {word} {figure}")?)
 }

@@ -12,18 +12,17 @@ mod lit_frames;
 mod pages;
 mod reading;
 mod rings;
+mod room;
 mod row_books;
 mod salvages;
 mod text;
 mod trends;
 mod zone_books;
 
-use std::alloc::AllocError;
-use std::io::BufReader;
+use room::Room;
 
-fn main(rt: HostRuntime) -> Result<(), AllocError> {
-    let alloc = rt.alloc();
-    // A reader that cannot be made lacks memory, and nothing else.
-    let mut input = BufReader::new(alloc, rt.stdin()).map_err(|_| AllocError)?;
-    input::answer_all(alloc, &mut input, &mut rt.stdout())
+fn main(rt: HostRuntime) {
+    let mut buf = [0; input::LONGEST_LINE];
+    let mut room = Room::default();
+    input::run(&mut rt.stdin(), &mut rt.stdout(), &mut buf, &mut room);
 }

@@ -1,82 +1,78 @@
 // Numbers, records, bytes and rows from their text.
 ghost use Rattle.std.specs.Prelude.{◌<◌, IfOk};
 
+use crate::room::{Bytes, Row, Zones};
+use arrayvec::{ArrayVec, CapacityError};
 use book::Book;
-use std::alloc::{AllocError, Global};
+use std::fmt;
 use std::num::ParseIntError;
 use std::str::FromStr;
 
-// The most bytes of a field, numbers of a row, and records of zones.
-const MOST_BYTES: usize = 32_768;
-
-const MOST_NUMBERS: usize = 16_384;
-
-const MOST_ZONES: usize = 97;
-
-// Why a line has no answer.
+// A line that cannot be read, and so has no answer.
 #[derive(Clone, Copy, Debug)]
-pub(crate) enum Unanswered {
-    Unreadable,
-    OutOfMemory,
-}
-
-impl From<AllocError> for Unanswered {
-    fn from(_error: AllocError) -> Unanswered {
-        Unanswered::OutOfMemory
-    }
-}
+pub(crate) struct Unanswered;
 
 impl From<ParseIntError> for Unanswered {
     fn from(_error: ParseIntError) -> Unanswered {
-        Unanswered::Unreadable
+        Unanswered
+    }
+}
+
+// More bytes, numbers, records or words than are taken.
+impl<T: Drop> From<CapacityError<T>> for Unanswered {
+    fn from(_error: CapacityError<T>) -> Unanswered {
+        Unanswered
+    }
+}
+
+// An answer longer than its room. None is.
+impl From<fmt::Error> for Unanswered {
+    fn from(_error: fmt::Error) -> Unanswered {
+        Unanswered
     }
 }
 
 // A number that its type holds: one digit or more and nothing else. Zeros may lead, and a plus sign, which `parse` would take, may not.
 pub(crate) fn number<N: FromStr<Err = ParseIntError>>(text: &str) -> Result<N, Unanswered> {
     if text.starts_with('+') {
-        return Err(Unanswered::Unreadable);
+        return Err(Unanswered);
     }
     Ok(text.parse()?)
 }
 
-// Items with a separator between them, `-` for none; more than `most` are not taken.
-fn list<T: Drop, F: Fn(&str) -> Result<T, Unanswered>>(
-    alloc: Global,
+// Items with a separator between them, `-` for none; more than `MOST` are not taken.
+fn list<T: Default + Drop, const MOST: usize, F: Fn(&str) -> Result<T, Unanswered>>(
     text: &str,
     separator: char,
-    most: usize,
     item: F,
-) -> Result<Vec<T>, Unanswered>
-    requires { (f : _) (a : _) → F.FnMut.pre f a }
+    items: &mut ArrayVec<T, MOST>,
+) -> Result<(), Unanswered>
+    requires { F.IsAlwaysCallable item }
 {
+    items.clear();
     if text == "-" {
-        return Ok(Vec::new(alloc));
+        return Ok(());
     }
-    let items: Vec<T> = text
-        .split(separator)
-        .take(most.saturating_add(1))
-        .map(item)
-        .try_collect(alloc)?;
-    if items.len() > most {
-        return Err(Unanswered::Unreadable);
+    for part in text.split(separator) {
+        items.try_push(item(part)?)?;
     }
-    Ok(items)
+    Ok(())
 }
 
 // A row of numbers joined by commas.
-pub(crate) fn row<N: FromStr<Err = ParseIntError> + Drop>(
-    alloc: Global,
+pub(crate) fn row<N: FromStr<Err = ParseIntError> + Default + Drop>(
     text: &str,
-) -> Result<Vec<N>, Unanswered> {
-    list(alloc, text, ',', MOST_NUMBERS, |part| number(part))
+    numbers: &mut Row<N>,
+) -> Result<(), Unanswered> {
+    list(text, ',', |part| number(part), numbers)
 }
 
 // The record `L,n,D,R,p,kept,head,mark`.
-pub(crate) fn record(alloc: Global, text: &str) -> Result<Book, Unanswered> {
-    let numbers = row(alloc, text)?;
+pub(crate) fn record(text: &str) -> Result<Book, Unanswered> {
+    let mut numbers = ArrayVec::<u64, 8>::new();
+    list(text, ',', |part| number(part), &mut numbers)?;
     let &[bound, length, tolerance, carry, phase, kept, head, resting] = numbers.as_slice() else {
-        return Err(Unanswered::Unreadable);
+        return Err(Unanswered);
     };
     Ok(Book {
         bound,
@@ -92,35 +88,39 @@ pub(crate) fn record(alloc: Global, text: &str) -> Result<Book, Unanswered> {
 
 // A record and its ring.
 pub(crate) fn book(
-    alloc: Global,
     record_text: &str,
-    ring: &str,
-) -> Result<(Book, Vec<u8>), Unanswered> {
-    let book = record(alloc, record_text)?;
-    Ok((book, bytes(alloc, ring)?))
+    ring_text: &str,
+    ring: &mut Bytes,
+) -> Result<Book, Unanswered> {
+    bytes(ring_text, ring)?;
+    record(record_text)
 }
 
 // The records of zones joined by semicolons.
-pub(crate) fn zones(alloc: Global, text: &str) -> Result<Vec<Book>, Unanswered> {
-    list(alloc, text, ';', MOST_ZONES, |zone| record(alloc, zone))
+pub(crate) fn zones(text: &str, zones: &mut Zones) -> Result<(), Unanswered> {
+    list(text, ';', |zone| record(zone), zones)
 }
 
 // Bytes as hex, `-` for none.
-pub(crate) fn bytes(alloc: Global, text: &str) -> Result<Vec<u8>, Unanswered> {
+pub(crate) fn bytes(text: &str, bytes: &mut Bytes) -> Result<(), Unanswered> {
+    bytes.clear();
     if text == "-" {
-        return Ok(Vec::new(alloc));
+        return Ok(());
     }
-    if text.is_empty() || text.len() > 2 * MOST_BYTES {
-        return Err(Unanswered::Unreadable);
+    if text.is_empty() {
+        return Err(Unanswered);
     }
-    text.as_bytes().chunks(2).map(byte).try_collect(alloc)
+    for digits in text.as_bytes().chunks(2) {
+        bytes.try_push(byte(digits)?)?;
+    }
+    Ok(())
 }
 
 // A byte from its two digits.
 fn byte(digits: &[u8]) -> Result<u8, Unanswered> {
     match digits {
         [high, low] => Ok(digit(*high)? * 16 + digit(*low)?),
-        _ => Err(Unanswered::Unreadable),
+        _ => Err(Unanswered),
     }
 }
 
@@ -131,6 +131,6 @@ fn digit(byte: u8) -> Result<u8, Unanswered>
     match byte {
         b'0'..=b'9' => Ok(byte - b'0'),
         b'a'..=b'f' => Ok(byte - b'a' + 10),
-        _ => Err(Unanswered::Unreadable),
+        _ => Err(Unanswered),
     }
 }

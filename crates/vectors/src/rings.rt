@@ -1,57 +1,62 @@
 // The ring's own calls, `width slots ring` and up to two numbers.
 use crate::reading::{bytes, number};
+use crate::room::{Room, Text};
 use crate::text;
 use crate::text::{Answer, Hex};
-use std::alloc::Global;
+use refusals::Refusal;
+use std::fmt::Write;
 
 // The refusal and the ring.
-pub(crate) fn clear(alloc: Global, width: &str, slots: &str, ring: &str) -> Answer {
-    let mut ring = bytes(alloc, ring)?;
-    let answer = ring::clear(number(width)?, number(slots)?, &mut ring);
-    Ok(format!(in alloc; "{} {}", text::refusal(answer), Hex(&ring))?)
+fn written(out: &mut Text, answer: Result<(), Refusal>, ring: &[u8]) -> Answer {
+    Ok(write!(out, "{} {}", text::refusal(answer), Hex(ring))?)
 }
 
-pub(crate) fn read(alloc: Global, width: &str, slots: &str, ring: &str, slot: &str) -> Answer {
-    let ring = bytes(alloc, ring)?;
-    let answer = ring::read(number(width)?, number(slots)?, &ring, number(slot)?);
-    text::refusal_and_number(alloc, answer)
+pub(crate) fn clear(room: &mut Room, width: &str, slots: &str, ring: &str) -> Answer {
+    bytes(ring, &mut room.first)?;
+    let answer = ring::clear(number(width)?, number(slots)?, &mut room.first);
+    written(&mut room.out, answer, &room.first)
 }
 
-// The refusal and the ring.
+pub(crate) fn read(room: &mut Room, width: &str, slots: &str, ring: &str, slot: &str) -> Answer {
+    bytes(ring, &mut room.first)?;
+    let answer = ring::read(number(width)?, number(slots)?, &room.first, number(slot)?);
+    text::refusal_and_number(&mut room.out, answer)
+}
+
 pub(crate) fn write(
-    alloc: Global,
+    room: &mut Room,
     width: &str,
     slots: &str,
     ring: &str,
     slot: &str,
     value: &str,
 ) -> Answer {
-    let mut ring = bytes(alloc, ring)?;
+    bytes(ring, &mut room.first)?;
     let answer = ring::write(
         number(width)?,
         number(slots)?,
-        &mut ring,
+        &mut room.first,
         number(slot)?,
         number(value)?,
     );
-    Ok(format!(in alloc; "{} {}", text::refusal(answer), Hex(&ring))?)
+    written(&mut room.out, answer, &room.first)
 }
 
 pub(crate) fn sum(
-    alloc: Global,
+    room: &mut Room,
     width: &str,
     slots: &str,
     ring: &str,
     next: &str,
     j: &str,
 ) -> Answer {
-    let ring = bytes(alloc, ring)?;
+    bytes(ring, &mut room.first)?;
     let answer = ring::sum(
         number(width)?,
         number(slots)?,
-        &ring,
+        &room.first,
         number(next)?,
         number(j)?,
     );
-    text::refusal_and_number(alloc, answer)
+    text::refusal_and_number(&mut room.out, answer)
 }

@@ -1,16 +1,18 @@
 // How records, bytes, rows and refusals are written.
+ghost use Rattle.std.specs.Prelude.{◌≤◌, length};
+
 use crate::reading::Unanswered;
+use crate::room::Text;
 use book::Book;
 use refusals::Refusal;
-use std::alloc::Global;
 use std::fmt;
 use std::fmt::{Display, Write};
 
-// The answer to a line, or why it has none.
-pub(crate) type Answer = Result<String, Unanswered>;
+// The answer to a line stands in its room, or the line has none.
+pub(crate) type Answer = Result<(), Unanswered>;
 
 // A record `L,n,D,R,p,kept,head,mark`.
-#[derive(Clone, Copy)]
+#[derive(Clone, Copy, Default)]
 pub(crate) struct Record(pub Book);
 
 impl Display for Record {
@@ -19,6 +21,32 @@ impl Display for Record {
         write!(f, "{},{},{},{}", b.bound, b.length, b.tolerance, b.carry)?;
         write!(f, ",{},{},{},{}", b.phase, b.kept, b.head, b.resting)
     }
+}
+
+// How many bytes are turned into hex at once. (Byte by byte as `{byte:02x}`, a line with a long ring took half as long again.)
+const PART: usize = 32;
+
+const DIGITS: &[u8; 16] = b"0123456789abcdef";
+
+// The two digits of each byte, from the start of an array with room for those of a part.
+fn hex_of(part: &[u8]) -> [u8; 2 * PART]
+    requires { length part.now ≤ 32 }
+{
+    let mut digits = [b'0'; 2 * PART];
+    for (i, byte) in part.iter().enumerate() {
+        digits[2 * i] = DIGITS[usize::from(*byte / 16)];
+        digits[2 * i + 1] = DIGITS[usize::from(*byte % 16)];
+    }
+    digits
+}
+
+// A part in hex. (Digits are a text; that they are is asked here, and not proved.)
+fn write_part<W: fmt::Write>(f: &mut fmt::Formatter<W>, part: &[u8]) -> fmt::Result
+    requires { length part.now ≤ 32 }
+{
+    let digits = hex_of(part);
+    let text = str::from_utf8(&digits[..2 * part.len()]).map_err(|_| fmt::Error)?;
+    f.write_str(text)
 }
 
 // Bytes as hex, `-` for none.
@@ -30,8 +58,8 @@ impl Display for Hex<'_> {
         if self.0.is_empty() {
             return write!(f, "-");
         }
-        for byte in self.0 {
-            write!(f, "{byte:02x}")?;
+        for part in self.0.chunks(PART) {
+            write_part(f, part)?;
         }
         Ok(())
     }
@@ -66,10 +94,9 @@ fn row(numbers: &[u32]) -> List<'_, u32> {
     }
 }
 
-// A text, and a row of numbers behind it.
-pub(crate) fn with_row(mut text: String, numbers: &[u32]) -> Answer {
-    write!(text, " {}", row(numbers))?;
-    Ok(text)
+// A row of numbers behind what is written.
+pub(crate) fn with_row(out: &mut Text, numbers: &[u32]) -> Answer {
+    Ok(write!(out, " {}", row(numbers))?)
 }
 
 // The number of a refusal, 0 for none.
@@ -79,11 +106,11 @@ pub(crate) fn refusal(answer: Result<(), Refusal>) -> u8 {
 
 // The refusal and a number, which is 0 at a refusal.
 pub(crate) fn refusal_and_number<N: Display + Drop>(
-    alloc: Global,
+    out: &mut Text,
     answer: Result<N, Refusal>,
 ) -> Answer {
     match answer {
-        Ok(number) => Ok(format!(in alloc; "0 {number}")?),
-        Err(refusal) => Ok(format!(in alloc; "{} 0", refusal.number())?),
+        Ok(number) => Ok(write!(out, "0 {number}")?),
+        Err(refusal) => Ok(write!(out, "{} 0", refusal.number())?),
     }
 }

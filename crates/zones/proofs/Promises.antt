@@ -17,4 +17,4 @@ pub use Rattle.zones.proofs.EachZone.{each_zone, as_many_in_all, rest_stays_in_a
 -- … and it is adding to one zone after the other, in any order, there and back
 pub use Rattle.zones.proofs.AnyOrder.{in_any_order, one_end, any_order_back}
 -- demand 1 and uniqueness of both calls, for the statements that the functions have
-pub use Rattle.zones.proofs.Demand1.{all_says, one_says, all_tells, one_tells, add_all_promised, add_one_promised}
+pub use Rattle.zones.proofs.Demand1.{all_says, one_says, all_tells, one_tells, add_all_promised, add_one_promised, add_all_settled, add_one_settled}

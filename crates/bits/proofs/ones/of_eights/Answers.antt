@@ -1,5 +1,5 @@
 -- `bits::ones::of_eights`: a word more, and at the end no byte is left.
-use Rattle.std.proofs.Common.{◌≡◌, ◌+◌, ◌++◌, ap, ◌∙◌, arith, List, ℕ, length-append}
+use Rattle.std.proofs.Common.{◌≡◌, ◌+◌, ◌%◌, ◌^◌, ◌++◌, ap, ◌∙◌, arith, List, ℕ, length-append}
 use Rattle.std.specs.Slice.Iter.{chunks_exact_rest}
 use Rattle.bits.specs.Row.{bits}
 use Rattle.bits.specs.Ones.{ones_of}
@@ -7,14 +7,10 @@ use Rattle.bits.proofs.CountingOnes.{bytes_le, bytes_append}
 use Rattle.bits.proofs.ones.of_eights.Goals as goal
 
 -- what is counted, with the ones of a word, and what is then left, are still all
-word_more : (before word after : List ℕ) (sum ones : ℕ) {all : ℕ} → sum + ones_of (bits before) ≡ all → before ≡ word ++ after
-    → ones ≡ ones_of (bits word) → sum + ones + ones_of (bits after) ≡ all
+word_more : (before word after : List ℕ) (sum ones : ℕ) {all : ℕ} → (sum + ones_of (bits before)) % 2 ^ 64 ≡ all → before ≡ word ++ after
+    → ones ≡ ones_of (bits word) → ((sum + ones) % 2 ^ 64 + ones_of (bits after)) % 2 ^ 64 ≡ all
 word_more before word after sum ones counted parts own =
     omega (arith, counted, ap (λ (l : List ℕ). ones_of (bits l)) parts, bytes_append word after, own)
-
-pub overflow_add-sum : goal.overflow_add-sum
-overflow_add-sum c = let h = c.in-Some.ensures.steps in
-    omega (arith, word_more _ _ _ _ _ c.loop-eight.invariant.counted h.1.0 c.of_eight-sum.ensures, bytes_le c.args.bytes.now, c.requires.few)
 
 pub loop-eight-preserved : goal.loop-eight-preserved
 loop-eight-preserved c = let h = c.in-Some.ensures.steps in

@@ -5,8 +5,8 @@ use lib.Count.{ones}
 use Rattle.bits.proofs.CountingOnes.{between_le, part_of_byte}
 use Rattle.bits.proofs.ones.of_part.Goals as goal
 
-pub returns-then-from-to : goal.returns-then-from-to
-returns-then-from-to c = omega (arith, between_le c.args.row.now c.args.from c.args.to)
+pub returns-then-to-from : goal.returns-then-to-from
+returns-then-to-from c = omega (arith, between_le c.args.row.now c.args.from c.args.to)
 
 pub returns : goal.returns
 returns c = let a = c.args in

@@ -1,33 +1,22 @@
--- `sums::row::fields`: the ring has the first `to` slots, and the last of them are summed by its call.
+-- `sums::row::fields`: the ring's call is asked for the last of the first `to` slots, where there are any.
 -- Assumes nothing.
-use Rattle.std.proofs.Common.{◌≡◌, ℕ, ◌-◌, ◌<◌, ◌≤◌, List, length, Result, Ok, sym, ◌∙◌, arith}
+use Rattle.std.proofs.Common.{◌≡◌, ℕ, ◌-◌, Result, Ok, Err, refl, sym, ap, ◌∙◌, arith}
+use Rattle.std.specs.Result.{result_unwrap_or}
 use Rattle.refusals.specs.declared.Refusal.{Refusal}
-use Rattle.refusals.specs.Call.{result_of}
-use Rattle.ring.specs.Slot.{field}
-use Rattle.ring.specs.Lent.{Lent}
+use Rattle.ring.specs.declared.Answer.{Answer}
 use Rattle.ring.specs.Told.{as_answer}
-use Rattle.ring.specs.Calls.{sum_call}
-use Rattle.sums.specs.Row.{sum_from}
-use Rattle.sums.proofs.SumsOfFields.{from_none}
-use Rattle.sums.proofs.FieldsInRange.{ring_answers}
-use Rattle.sums.proofs.Answered.{ring_ok}
-use Rattle.sums.proofs.ShapeInUse.{lent_whole}
+use Rattle.sums.proofs.FieldsInRange.{no_fields}
 use Rattle.sums.proofs.row.fields.Goals as goal
 
-summed : (width slots : ℕ) (ring : List ℕ) (from to : ℕ) (answer : Result ℕ Refusal) → Lent width slots (length ring) → from < to → to ≤ slots
-    → as_answer answer ≡ result_of (sum_call width to ring 0 (to - from)) → answer ≡ Ok (sum_from (field width ring) from (to - from))
-summed width slots ring from to answer whole some within told =
-    ring_ok answer (told ∙ ring_answers width slots ring whole to (omega arith) within from some)
+-- an answer's number is 0 where it is refused
+number_told : (answer : Result ℕ Refusal) → result_unwrap_or answer 0 ≡ (as_answer answer).value
+number_told (Ok value) = refl
+number_told (Err refusal) = refl
 
 pub returns-then-to-from : goal.returns-then-to-from
 returns-then-to-from c =
     let none : c.args.to - c.args.from ≡ 0 = omega arith in
-    rw none (sym (from_none (field c.args.known.shape.width c.args.ring.now) c.args.from))
-
-pub unwrap-requires : goal.unwrap-requires
-unwrap-requires c = rw (summed _ _ _ _ _ c.sum.result (lent_whole c.args.known c.requires.0) c.if-to-from.false c.requires.2 c.sum.ensures)
+    rw none (sym (no_fields c.args.known.shape.width c.args.to c.args.ring.now))
 
 pub returns : goal.returns
-returns c =
-    let is = summed _ _ _ _ _ c.sum.result (lent_whole c.args.known c.requires.0) c.if-to-from.false c.requires.2 c.sum.ensures in
-    cc
+returns c = c.unwrap_or.ensures ∙ number_told c.sum.result ∙ ap (λ (a : Answer). a.value) c.sum.ensures

@@ -1,13 +1,9 @@
 -- `sums::row::store`: where the group's end is right behind the slot the sum is put, and otherwise the row stays.
 -- Assumes nothing.
-use Rattle.std.proofs.Common.{◌+◌, sym, ◌∙◌, eq-eqb, ne_eqb, arith, rules}
+use Rattle.std.proofs.Common.{◌+◌, sym, ◌∙◌, eq-eqb, ne_eqb, rules}
 use Rattle.sums.specs.Row.{group_end, sum_from, stored}
 use Rattle.sums.specs.Rule.{stored_at}
-use Rattle.sums.proofs.ShapeInUse.{use_slots}
 use Rattle.sums.proofs.row.store.Goals as goal
-
-pub group_end-requires : goal.group_end-requires
-group_end-requires c = omega (arith, c.requires.1, (use_slots c.args.known.derived c.args.known.sound).1)
 
 pub put-requires : goal.put-requires
 unfolding sum_from stored_at

@@ -9,7 +9,6 @@ use Rattle.book.specs.RunOfCounts.{added_all}
 use Rattle.book.specs.Calls.{run_call}
 use Rattle.book.specs.Told.{as_ran}
 use Rattle.sums.proofs.Answered.{run_ok, same_ok}
-use Rattle.sums.proofs.ShapeInUse.{use_slots}
 use Rattle.sums.proofs.RunTurns.{Takes, takes, end_ahead, end_within, run_adds, part_stores, part_leaves, part_front}
 use Rattle.sums.proofs.running.add_part.Goals as goal
 
@@ -20,9 +19,6 @@ run_gave {book} ring ran taking told = run_ok book ran (told ∙ (run_adds ring 
 
 pub unwrap-added-requires : goal.unwrap-added-requires
 unwrap-added-requires c = let is = run_gave c.args.ring.now c.run.result (takes c.args.known c.requires.0) c.run.ensures.0 in rw is
-
-pub group_end-end-requires : goal.group_end-end-requires
-group_end-end-requires c = omega (arith, use_slots c.args.known.derived c.args.known.sound)
 
 pub put-requires : goal.put-requires
 put-requires c =

@@ -1,12 +1,8 @@
 -- `sums::running::items_left`: head's group ends behind head, by 32 blocks at the most, and the open block lies within them.
 -- Assumes nothing.
 use Rattle.std.proofs.Common.{arith}
-use Rattle.sums.proofs.ShapeInUse.{use_slots}
 use Rattle.sums.proofs.RunTurns.{end_ahead, span_top, span_low, span_left}
 use Rattle.sums.proofs.running.items_left.Goals as goal
-
-pub group_end-requires : goal.group_end-requires
-group_end-requires c = omega (arith, use_slots c.args.known.derived c.args.known.sound)
 
 pub overflow_sub-result : goal.overflow_sub-result
 overflow_sub-result c = omega (arith, end_ahead c.args.known.sound c.args.known.derived c.group_end.ensures)

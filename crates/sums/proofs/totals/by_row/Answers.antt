@@ -7,6 +7,7 @@ use Rattle.book.specs.Figure.{slots_for}
 use Rattle.sums.specs.Row.{entries_for}
 use Rattle.book.proofs.Promises.{ready}
 use Rattle.sums.proofs.Answered.{oldest_read, same_ok}
+use Rattle.sums.proofs.SumsOfFields.{oldest_newest}
 use Rattle.sums.proofs.FieldsInRange.{field_small}
 use Rattle.sums.proofs.ByTheRule.{fields_few}
 use Rattle.sums.proofs.ShapeInUse.{use_slots, lent_whole}
@@ -31,17 +32,13 @@ read_newest-newest-requires c =
     let k = longer c.args.known c.args.ring.now c.args.row.now c.args.window c.requires c.slots_for-j.ensures in
     (c.requires.0, c.requires.1, slots_needed k)
 
-pub oldest-requires : goal.oldest-requires
-oldest-requires c =
-    let k = longer c.args.known c.args.ring.now c.args.row.now c.args.window c.requires c.slots_for-j.ensures in
-    ((use_slots c.args.known.derived c.args.known.sound).2, slots_needed k)
-
 pub unwrap-g-requires : goal.unwrap-g-requires
 unwrap-g-requires c =
     let k = longer c.args.known c.args.ring.now c.args.row.now c.args.window c.requires c.slots_for-j.ensures in
     let g_is =
     oldest_read c.args.known.shape.width c.args.known.shape.slots c.args.known.book.head c.slots_for-j.result c.args.ring.now c.read.result
-    (lent_whole c.args.known c.requires.0) (use_slots c.args.known.derived c.args.known.sound).2 c.oldest.ensures c.read.ensures in
+    (lent_whole c.args.known c.requires.0) (use_slots c.args.known.derived c.args.known.sound).2
+    (c.oldest.ensures ∙ oldest_newest _ _ _ (slots_needed k)) c.read.ensures in
     rw g_is
 
 pub overflow_mul-j : goal.overflow_mul-j
@@ -59,7 +56,8 @@ reckon-requires c =
     let k = longer c.args.known c.args.ring.now c.args.row.now c.args.window c.requires c.slots_for-j.ensures in
     let g_is =
     oldest_read c.args.known.shape.width c.args.known.shape.slots c.args.known.book.head c.slots_for-j.result c.args.ring.now c.read.result
-    (lent_whole c.args.known c.requires.0) (use_slots c.args.known.derived c.args.known.sound).2 c.oldest.ensures c.read.ensures in
+    (lent_whole c.args.known c.requires.0) (use_slots c.args.known.derived c.args.known.sound).2
+    (c.oldest.ensures ∙ oldest_newest _ _ _ (slots_needed k)) c.read.ensures in
     let top = field_small c.args.known.shape.width c.args.known.shape.slots c.args.ring.now (lent_whole c.args.known c.requires.0)
     (newest c.args.known.shape.slots c.args.known.book.head c.slots_for-j.result) in
     (c.read_newest-newest.ensures.value.1, omega (arith, (slots_cover k).2), omega (arith, same_ok (sym c.unwrap-g.ensures ∙ g_is), top))
@@ -78,7 +76,8 @@ returns c =
     let k = longer c.args.known c.args.ring.now c.args.row.now c.args.window c.requires c.slots_for-j.ensures in
     let g_is =
     oldest_read c.args.known.shape.width c.args.known.shape.slots c.args.known.book.head c.slots_for-j.result c.args.ring.now c.read.result
-    (lent_whole c.args.known c.requires.0) (use_slots c.args.known.derived c.args.known.sound).2 c.oldest.ensures c.read.ensures in
+    (lent_whole c.args.known c.requires.0) (use_slots c.args.known.derived c.args.known.sound).2
+    (c.oldest.ensures ∙ oldest_newest _ _ _ (slots_needed k)) c.read.ensures in
     let read = c.read_newest-newest.ensures in
     λ i. record {
       figure = (c.reckon.ensures ∙ figure_longer k c.args.row.now read.value.0 (same_ok (sym c.unwrap-g.ensures ∙ g_is))) i;
